@@ -1,7 +1,7 @@
 """Compares the project's programs with others, all in one run. Only the ratios count.
 
-`python3 bench/run.py [PART..]` measures the named parts, or all of them: lines, pick, apply, queue, replies, lane, http,
-world, run. `--operations N` sets the number of operations of `run`, 50,000 by default.
+`python3 bench/run.py [PART..]` measures the named parts, or all of them: lines, pick, apply, queue, tell, replies, lane,
+http, world, run. `--operations N` sets the number of operations of `run`, 50,000 by default.
 """
 import argparse
 import os
@@ -16,6 +16,7 @@ import pick_bench
 import queue_bench
 import replies_bench
 import run_bench
+import tell_bench
 import world_bench
 
 TOP = os.path.dirname(os.path.dirname(os.path.abspath(__file__)))
@@ -28,6 +29,7 @@ PARTS = [
     ("pick", RELAY, "`make build`", pick_bench.measure),
     ("apply", RELAY, "`make build`", apply_bench.measure),
     ("queue", RELAY_BENCH, "`rt run` in crates/relay_bench", queue_bench.measure),
+    ("tell", RELAY_BENCH, "`rt run` in crates/relay_bench", tell_bench.measure),
     ("replies", RELAY_BENCH, "`rt run` in crates/relay_bench", replies_bench.measure),
     ("lane", RELAY_BENCH, "`rt run` in crates/relay_bench", lane_bench.measure),
     ("http", RELAY_BENCH, "`rt run` in crates/relay_bench", http_bench.measure),

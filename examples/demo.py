@@ -20,8 +20,8 @@ CASES = (
     ("apply --refuse 2:429", "books.bulk", "the reply of a fresh stand-in index, which refuses the second item"),
     ("world", "lost_reply.script", "a reply is lost after the write was applied: the second send finds that out"),
 )
-STUB = "stub --listen 127.0.0.1:%d --requests 3 --refuse 2:429,3:400" % PORT
-RUN = "run --to 127.0.0.1:%d --patience 120 books.ndjson" % PORT
+STUB = "stub --listen 127.0.0.1:%d --requests 4 --refuse 2:429,3:400" % PORT
+RUN = "run --to 127.0.0.1:%d --epoch-from relay/epoch --patience 120 books.ndjson" % PORT
 
 
 def tried(arguments, *flags):
@@ -61,7 +61,7 @@ def main():
     for at, (arguments, name, what) in enumerate(CASES):
         print("\n--- relay %s < examples/%s\n    (%s)\n%s" % (arguments, name, what, shown.get("%d" % at, "nothing was printed:\n" + several.stderr[-2000:])))
     (listed, stub_said), (told, run_said) = served.communicate(), ran.communicate()
-    print("\n--- relay %s &\n--- relay %s\n    (item 2 is sent again, item 3 is reported)\n%s" % (STUB, RUN, told or run_said[-2000:]))
+    print("\n--- relay %s &\n--- relay %s\n    (the first connection gives the epoch; item 2 is sent again, item 3 is reported)\n%s" % (STUB, RUN, told or run_said[-2000:]))
     print("--- what the stand-in index applied, as `relay stub` lists it at its end\n%s" % (listed or stub_said[-2000:]))
     sys.exit(0 if shown and told and listed else 1)
 

@@ -7,16 +7,20 @@ import time
 
 
 class Index:
-    """The version of each document, and the writes that were applied to it, in order."""
+    """The version of each document, and the writes that were applied to it, in order. If `states`, each conflict states the
+    version in its reason, in the words of OpenSearch."""
 
-    def __init__(self):
-        self.versions, self.applied = {}, {}
+    def __init__(self, states=False):
+        self.versions, self.applied, self.states = {}, {}, states
 
     def run(self, kind, meta, source):
         """Runs one write, and returns its entry in the reply."""
         key = (meta["_index"], meta["_id"])
         if meta["version"] <= self.versions.get(key, 0):
-            return {kind: {"_id": key[1], "status": 409, "error": {"type": "version_conflict_engine_exception"}}}
+            error = {"type": "version_conflict_engine_exception"}
+            if self.states:
+                error["reason"] = "[%s]: version conflict, current version [%d] is higher or equal to the one provided [%d]" % (key[1], self.versions[key], meta["version"])
+            return {kind: {"_id": key[1], "status": 409, "error": error}}
         live = self.applied.get(key, [(0, "delete", None)])[-1][1] == "index"
         self.versions[key] = meta["version"]
         self.applied.setdefault(key, []).append((meta["version"], kind, source))
@@ -33,16 +37,31 @@ def writes_of(body):
         yield kind, meta, next(lines) if kind == "index" else None
 
 
+# The faults after which a client has no answer.
+LOST = ("drop before", "drop after", "half", "garbage", "no items")
+
+
+def key_of(meta):
+    return meta["_index"], meta["_id"], meta["version"]
+
+
 class Server:
     """Serves each connection in a thread, one request at a time. `plan` maps the number of a request, from 1, to the name of a
     fault or None. A body of more than `most` bytes gets 413 once it has been read. If `early` is given, it gets 413 before it is
     read, and the connection is closed immediately (`closes`) or after the body has arrived (`drains`). A request waits for
-    `delay()` seconds before it is processed."""
+    `delay()` seconds before it is processed. `states` as in `Index`.
 
-    def __init__(self, plan=lambda number: None, refuse=lambda meta: None, most=2**64, early=None, delay=None):
-        self.index, self.plan, self.refuse, self.most, self.early, self.delay = Index(), plan, refuse, most, early, delay
+    `told` has what each write was answered, by its index, id and version, one for each request that carried it: ("lost",),
+    ("unsure",) if the answer could not be written, ("whole", status) or ("item", status, type of the error)."""
+
+    # Whether all requests are served by `answer`, and whether it notes what it answers.
+    sees_all, tells = True, True
+
+    def __init__(self, plan=lambda number: None, refuse=lambda meta: None, most=2**64, early=None, delay=None, states=False):
+        self.index, self.plan, self.refuse, self.most, self.early, self.delay = Index(states), plan, refuse, most, early, delay
         self.requests, self.lock = 0, threading.Lock()
-        self.heads, self.streams, self.strays = [], [], []
+        self.sees_all = type(self).sees_all and early is None
+        self.heads, self.streams, self.strays, self.told = [], [], [], {}
         self.listen(0)
 
     def accept(self):
@@ -56,10 +75,13 @@ class Server:
             threading.Thread(target=self.serve, args=(stream,), daemon=True).start()
 
     def listen(self, port):
-        self.listener = socket.create_server(("127.0.0.1", port))
+        self.listener = self.listener_at(port)
         self.port = self.listener.getsockname()[1]
         self.acceptor = threading.Thread(target=self.accept, daemon=True)
         self.acceptor.start()
+
+    def listener_at(self, port):
+        return socket.create_server(("127.0.0.1", port))
 
     def close(self):
         """Stops listening. The accepting thread is joined before its socket is closed: otherwise it could accept a connection
@@ -75,6 +97,7 @@ class Server:
 
     def rest(self, seconds):
         """Stops listening, drops all connections, and listens on the same port again after `seconds`."""
+        self.sees_all = False
         self.close()
         with self.lock:
             streams, self.streams = self.streams, []
@@ -135,24 +158,50 @@ class Server:
         """Serves one request. Returns true if the connection is kept."""
         if self.delay:
             time.sleep(self.delay())
+        writes = list(writes_of(body))
         with self.lock:
             self.requests += 1
             self.heads.append(head)
             fault = self.plan(self.requests)
-            if fault == "drop before":
-                return False
-            if isinstance(fault, int):
-                return self.send(stream, fault, b"{}")
-            if len(body) > self.most:
-                return self.send(stream, 413, b"{}")
-            entries = []
-            for kind, meta, source in writes_of(body):
-                status = self.refuse(meta)
-                if status:
-                    entries.append({kind: {"_id": meta["_id"], "status": status, "error": {"type": "planned"}}})
-                else:
-                    entries.append(self.index.run(kind, meta, source))
+            whole = fault if isinstance(fault, int) else 413 if len(body) > self.most and fault != "drop before" else None
+            runs = fault != "drop before" and whole is None
+            entries = [self.run(*it) for it in writes] if runs else []
             reply = json.dumps({"took": 1, "errors": False, "items": entries}).encode()
+            told = [(it, self.tell(it, at, fault, whole, entries)) for at, it in enumerate(writes)]
+        keeps = self.reply_with(stream, fault, whole, reply)
+        if not keeps and fault in (None, "late", "chunked", "interim"):
+            with self.lock:
+                for (_, meta, _), place in told:
+                    self.told[key_of(meta)][place] = ("unsure",)
+        return keeps
+
+    def run(self, kind, meta, source):
+        """Runs or refuses one write, and returns its entry in the reply."""
+        status = self.refuse(meta)
+        if status:
+            return {kind: {"_id": meta["_id"], "status": status, "error": {"type": "planned"}}}
+        return self.index.run(kind, meta, source)
+
+    def tell(self, write, at, fault, whole, entries):
+        """Notes what a write is answered, and returns the place of the note."""
+        kind, meta, _ = write
+        if whole is not None:
+            answer = ("whole", whole)
+        elif fault in LOST:
+            answer = ("lost",)
+        else:
+            entry = entries[at][kind]
+            answer = ("item", entry["status"], entry.get("error", {}).get("type"))
+        notes = self.told.setdefault(key_of(meta), [])
+        notes.append(answer)
+        return len(notes) - 1
+
+    def reply_with(self, stream, fault, whole, reply):
+        """Sends the answer to a request. Returns true if the connection is kept."""
+        if fault == "drop before":
+            return False
+        if whole is not None:
+            return self.send(stream, whole, b"{}")
         if fault == "drop after":
             return False
         if fault == "late":

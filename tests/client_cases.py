@@ -7,7 +7,7 @@ import subprocess
 import sys
 
 from bulk_server import Index
-from program import check
+from program import check, skip
 from run_cases import wait_for
 from stub_cases import Stub
 
@@ -98,8 +98,7 @@ def ask(name, python, wanted, count, retries=0, refused=None):
 def foreign_client():
     python = helpers()
     if python is None:
-        print("SKIPPED: the Elasticsearch helpers against relay stub: python3-elasticsearch, of version 7, is not installed")
-        return
+        return skip("the Elasticsearch helpers against relay stub", "python3-elasticsearch of version 7")
     wanted = actions(200, 12, 100)
     ask("requests of 7", python, wanted, 7)
     ask("one request", python, wanted, 500)

@@ -74,6 +74,32 @@ def named_pipe():
         server.close()
 
 
+def pipes_without_writers():
+    """A named pipe is opened by its own producer: as long as nobody writes to it, what the others have is read and sent."""
+    with tempfile.TemporaryDirectory() as folder:
+        first, second, third = (os.path.join(folder, it) for it in ("first", "second", "third"))
+        for path in (first, second):
+            os.mkfifo(path)
+        with open(third, "wb") as file:
+            file.write(ONE % (3, 3))
+        server = Server()
+        running = started(server, first, second, third)
+        wait_for_writes(server, 1)
+        check("a file behind two pipes without writers", len(server.index.applied) == 1, server.index.applied)
+        with open(second, "wb", buffering=0) as pipe:
+            pipe.write(ONE % (2, 2))
+            wait_for_writes(server, 2)
+            check("the second pipe while the first has no writer", len(server.index.applied) == 2, server.index.applied)
+        with open(first, "wb", buffering=0) as pipe:
+            pipe.write(ONE % (1, 1))
+        done = ended(running)
+        check("two pipes, the second first", done == (0, b"applied 3 already 0 reported 0\n", b""), done)
+        gone = os.path.join(folder, "gone")
+        done = ended(started(server, "--epoch", "1", gone, third))
+        check("a file that is not there", done == (3, b"applied 1 already 0 reported 0\n", b"%s: open failed\n" % gone.encode()), done)
+        server.close()
+
+
 def beside_files():
     """Standard input is the producer at its position among the files, whether it is a file or the output of another program."""
     with tempfile.TemporaryDirectory() as folder:
@@ -121,4 +147,4 @@ def at_fault():
             check("usage: run %s" % args, done.returncode == 1 and done.stdout == b"" and b"'-' is standard input, and can be the FILE of one producer only" in done.stderr, done)
 
 
-GROUPS = (slow_producer, named_pipe, beside_files, at_fault)
+GROUPS = (slow_producer, named_pipe, pipes_without_writers, beside_files, at_fault)

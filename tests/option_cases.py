@@ -23,23 +23,33 @@ class Sizes(Server):
 
 
 class Pipe:
-    """A run whose only file is a named pipe, which the test writes to."""
+    """A run whose files are named pipes, one for each producer, which the test writes to."""
 
-    def __init__(self, folder, server, *options):
-        self.path = os.path.join(folder, "pipe")
-        os.mkfifo(self.path)
-        args = [RELAY, "run", "--to", "127.0.0.1:%d" % server.port, *options, self.path]
+    def __init__(self, folder, server, *options, producers=1):
+        self.paths = [os.path.join(folder, "pipe%d" % it) for it in range(producers)]
+        for path in self.paths:
+            os.mkfifo(path)
+        args = [RELAY, "run", "--to", "127.0.0.1:%d" % server.port, *options, *self.paths]
         self.process = subprocess.Popen(args, stdin=subprocess.DEVNULL, stdout=subprocess.PIPE, stderr=subprocess.PIPE)
-        self.file = open(self.path, "wb", buffering=0)
+        self.files = [open(path, "wb", buffering=0) for path in self.paths]
 
     def put(self, number, size=2):
-        source = b'{"n":"%s"}' % (b"x" * (size - 8)) if size > 8 else b"{}"
-        self.file.write(b'{"index":{"_index":"b","_id":"%d"}}\n%s\n' % (number, source))
+        self.write("%d" % number, b'{"n":"%s"}' % (b"x" * (size - 8)) if size > 8 else b"{}")
+
+    def write(self, identity, source=b"{}", producer=0):
+        self.files[producer].write(b'{"index":{"_index":"b","_id":"%s"}}\n%s\n' % (identity.encode(), source))
+
+    def closes(self):
+        for file in self.files:
+            file.close()
+        for path in self.paths:
+            os.unlink(path)
 
     def ends(self):
-        self.file.close()
+        for file in self.files:
+            file.close()
         out, err = self.process.communicate(timeout=120)
-        os.unlink(self.path)
+        self.closes()
         return self.process.returncode, out, err
 
 
@@ -98,8 +108,7 @@ def put_until_full(folder, server, *options):
     pipe.process.kill()
     pipe.process.communicate()
     writer.join(10)
-    pipe.file.close()
-    os.unlink(pipe.path)
+    pipe.closes()
     return last
 
 
@@ -125,9 +134,9 @@ def ticks():
     """--linger, and the length of a tick: a single operation is sent after that many ticks while the pipe is still open."""
     with tempfile.TemporaryDirectory() as folder:
         spent = {}
-        for linger in (0, 10):
+        for linger in ("0", "10", "1s", "901ms", "0m"):
             server = Sizes()
-            pipe = Pipe(folder, server, "--linger", "%d" % linger)
+            pipe = Pipe(folder, server, "--linger", linger)
             time.sleep(0.5)
             start = time.monotonic()
             pipe.put(1)
@@ -135,9 +144,10 @@ def ticks():
                 time.sleep(0.005)
             spent[linger] = time.monotonic() - start
             done = pipe.ends()
-            check("--linger %d" % linger, done == (0, b"applied 1 already 0 reported 0\n", b""), done)
+            check("--linger %s" % linger, done == (0, b"applied 1 already 0 reported 0\n", b""), done)
             server.close()
-        check("ten ticks are a second", spent[0] < 0.4 and 0.5 < spent[10] < 4, spent)
+        right = all(spent[it] < 0.4 for it in ("0", "0m")) and all(0.8 < spent[it] < 1.5 for it in ("10", "1s", "901ms"))
+        check("ten ticks are a second", right, spent)
 
 
 GROUPS = (batches, attempts, queues, ticks)

@@ -17,6 +17,8 @@ GAVE_UP = b"report 0:1 books/1 GaveUp 1\napplied 0 already 0 reported 1\n"
 class Silent(Server):
     """A server that accepts the first connections and never answers on them, whether or not it reads what arrives."""
 
+    sees_all = False
+
     def __init__(self, silent, reads=True):
         self.silent, self.reads, self.taken = silent, reads, 0
         super().__init__()
@@ -61,6 +63,56 @@ def silent_servers():
         server.close()
 
 
+class Dripping(Server):
+    """A server whose first answers come a few bytes at a time, each piece after a pause: the head as a whole or also in pieces."""
+
+    sees_all = False
+
+    def __init__(self, dripping, piece, pause, whole_head=False):
+        self.dripping, self.piece, self.pause, self.whole_head = dripping, piece, pause, whole_head
+        super().__init__()
+
+    def send(self, stream, status, body, more=b"", cut=0):
+        with self.lock:
+            self.dripping -= 1
+            drips = self.dripping >= 0
+        if not drips:
+            return super().send(stream, status, body, more=more, cut=cut)
+        head = b"HTTP/1.1 %d Said\r\n%sContent-Length: %d\r\n\r\n" % (status, more, len(body))
+        text = head + body
+        sent = len(head) if self.whole_head else 0
+        try:
+            stream.sendall(text[:sent])
+            while sent < len(text):
+                time.sleep(self.pause)
+                stream.sendall(text[sent : sent + self.piece])
+                sent += self.piece
+        except OSError:
+            return False
+        return True
+
+
+def dripping_servers():
+    """An answer has to come whole within --timeout, its head and its body together, however often a piece of it comes."""
+    with tempfile.TemporaryDirectory() as folder:
+        path = written(folder, 0, [("1", None)])
+        for whole_head in (False, True):
+            server = Dripping(2**64, 1, 0.4, whole_head)
+            done, spent = timed(server.port, [path], "--timeout", "2", "--attempts", "1")
+            check("an answer that drips, %s" % whole_head, done == (5, GAVE_UP, b"") and 1.9 < spent < 10, (done, spent))
+            server.close()
+        server = Dripping(2**64, 40, 0.1)
+        done, spent = timed(server.port, [path], "--timeout", "20", "--attempts", "1", "--epoch", "1")
+        check("an answer that comes in time, in pieces", done == (0, b"applied 1 already 0 reported 0\n", b"") and spent < 20, (done, spent))
+        server.close()
+        ops = operations(0, 60, 6)
+        server = Dripping(1, 1, 0.4)
+        done, spent = timed(server.port, [written(folder, 0, ops)], "--timeout", "1", "--count", "10", "--linger", "0", "--flying", "3")
+        judge("the first answer drips", server, [ops], done)
+        check("the first answer drips: all is applied", done[1].endswith(b" reported 0\n"), done)
+        server.close()
+
+
 def connections_that_are_not_made():
     """A connection that is neither accepted nor refused, since the queue of the listener is full, fails after --timeout seconds."""
     with tempfile.TemporaryDirectory() as folder, socket.socket() as listener:
@@ -74,7 +126,7 @@ def connections_that_are_not_made():
             stream.connect_ex(("127.0.0.1", port))
             waiting.append(stream)
         time.sleep(0.2)
-        done, spent = timed(port, [path], "--timeout", "1", "--attempts", "1")
+        done, spent = timed(port, [path], "--timeout", "1s", "--attempts", "1")
         check("a connection that is not made", done == (5, GAVE_UP, b"") and 0.9 < spent < 60, (done, spent))
         for stream in waiting:
             stream.close()
@@ -84,7 +136,7 @@ def patience_that_ends():
     """Without patience, a refused connection is an attempt immediately; with it, only after that many seconds."""
     with tempfile.TemporaryDirectory() as folder:
         path = written(folder, 0, [("1", None)])
-        for patience, least, most in (("0", 0, 20), ("2", 1.9, 60)):
+        for patience, least, most in (("0", 0, 20), ("2", 1.9, 60), ("2s", 1.9, 60), ("1001ms", 1.9, 60)):
             done, spent = timed(free_port(), [path], "--patience", patience, "--attempts", "1")
             check("--patience %s" % patience, done == (5, GAVE_UP, b"") and least <= spent < most, (done, spent))
 
@@ -101,7 +153,7 @@ def away(seconds, *more):
             time.sleep(0.01)
         server.rest(seconds)
         running.join()
-        judge("away for %d s" % seconds, server, producers, done[0])
+        judge("away for %d s" % seconds, server, producers, done[0], 2)
         check("away for %d s: all is applied" % seconds, done[0][1].endswith(b" reported 0\n"), done[0][1][-200:])
         server.close()
 
@@ -154,9 +206,23 @@ def usage():
         (["--patience", "604801"], b"604801"),
         (["--patience", "1.5"], b"1.5"),
         (["--patience", "1", "--patience", "2"], b"--patience"),
+        (["--timeout", "604800001ms"], b"604800001ms"),
+        (["--timeout", "169h"], b"'--timeout <DURATION>'"),
+        (["--timeout", "1d"], b"'1d'"),
+        (["--timeout", "s"], b"'s'"),
+        (["--timeout", ""], b"''"),
+        (["--timeout", "+1s"], b"'+1s'"),
+        (["--timeout", "1 s"], b"'1 s'"),
+        (["--timeout", "1S"], b"'1S'"),
+        (["--patience", "1ss"], b"'1ss'"),
+        (["--patience", "99999999999999999999s"], b"'99999999999999999999s'"),
+        (["--patience", "18446744073709551615h"], b"'18446744073709551615h'"),
+        (["--linger", "65536"], b"'65536' for '--linger <DURATION>': not a number of ms, s, m or h from 0 to 6553500ms, or 0 to 65535 ticks"),
+        (["--linger", "6553501ms"], b"6553501ms"),
+        (["--linger", "110m"], b"110m"),
     ):
         done = subprocess.run([RELAY, "run", "--to", "x:1", *args, "file"], stdin=subprocess.DEVNULL, capture_output=True, timeout=60)
         check("usage: run %s" % args, done.returncode == 1 and said in done.stderr and done.stdout == b"", (done.returncode, done.stderr))
 
 
-GROUPS = (silent_servers, connections_that_are_not_made, patience_that_ends, outages, server_that_is_not_there_yet, killed_while_it_waits, usage)
+GROUPS = (silent_servers, dripping_servers, connections_that_are_not_made, patience_that_ends, outages, server_that_is_not_there_yet, killed_while_it_waits, usage)

@@ -5,6 +5,8 @@ import sys
 
 RELAY = os.path.abspath(sys.argv[1])
 RESULTS = {"passed": 0, "failed": 0}
+# How long one run may take: a program with run-time checks is slower, and `try.py` gives it longer.
+SECONDS = int(os.environ.get("SECONDS_FOR_A_RUN", "60"))
 
 
 def check(name, right, found=""):
@@ -13,8 +15,16 @@ def check(name, right, found=""):
         print("FAILED: %s %s" % (name, found))
 
 
+def skip(name, package):
+    """Says that a test is skipped for want of a package. That is a failure if the environment has NOTHING_SKIPPED, as `.ci/run` sets it."""
+    if os.environ.get("NOTHING_SKIPPED"):
+        check(name, False, "needs %s, which is not installed" % package)
+    else:
+        print("SKIPPED: %s needs %s, which is not installed" % (name, package))
+
+
 def run(args, stdin=b"", **more):
-    return subprocess.run([RELAY] + args, input=stdin, capture_output=True, timeout=60, **more)
+    return subprocess.run([RELAY] + args, input=stdin, capture_output=True, timeout=SECONDS, **more)
 
 
 def case(name, args, stdin, stdout, stderr, status):
@@ -27,7 +37,7 @@ def directory(command):
     """Runs a command whose standard input is a directory."""
     folder = os.open("/", os.O_RDONLY)
     try:
-        done = subprocess.run([RELAY, command], stdin=folder, capture_output=True, timeout=60)
+        done = subprocess.run([RELAY, command], stdin=folder, capture_output=True, timeout=SECONDS)
     finally:
         os.close(folder)
     found = (done.stdout, done.stderr, done.returncode)
@@ -37,7 +47,7 @@ def directory(command):
 def endless(command, producer, text):
     """Runs a command on an endless input, from a shell command: it must end with this text and status 2."""
     source = subprocess.Popen(["sh", "-c", producer], stdout=subprocess.PIPE, stderr=subprocess.DEVNULL)
-    done = subprocess.run([RELAY, command], stdin=source.stdout, capture_output=True, timeout=60)
+    done = subprocess.run([RELAY, command], stdin=source.stdout, capture_output=True, timeout=SECONDS)
     source.stdout.close()
     source.wait()
     found = (done.stdout, done.stderr, done.returncode)

@@ -11,7 +11,7 @@ from program import RELAY, check
 from run_cases import operations, written
 from stub_cases import free_port
 
-LINE = re.compile(rb"read (\d+)(?: of (\d+))? bytes(?: \((\d+) %\))?, sent (\d+) operations in (\d+) requests, settled (\d+), repeats (\d+), out (\d+), (?:last answer (\d+) s ago|no answer yet)")
+LINE = re.compile(rb"read (\d+)(?: of (\d+))? bytes(?: \((\d+) %\))?, sent (\d+) operations in (\d+) requests, settled (\d+), refused (\d+), repeats (\d+), out (\d+), (?:last answer (\d+) s ago|no answer yet)")
 
 
 def progress_run(port, files, *more, stdin=subprocess.DEVNULL):
@@ -39,9 +39,9 @@ def lines():
         found = [numbers(it) for it in err.split(b"\n")[:-1]]
         check("lines", status == 0 and out == b"applied 28 already 0 reported 0\n" and err.endswith(b"\n") and None not in found, (status, out, err))
         check("a line a second", 3 <= len(found) <= spent + 1, (spent, err))
-        check("the last line", found[-1][:8] == [size, size, 100, 30, 30, 28, 2, 0], err)
-        check("what is counted only grows", all(it <= other for one, two in zip(found, found[1:]) for it, other in zip(one[3:7], two[3:7])), err)
-        check("one request of a lane is out at most", all(it[7] <= 1 and it[4] - it[7] <= it[5] + it[6] + 1 for it in found), err)
+        check("the last line", found[-1][:9] == [size, size, 100, 30, 30, 28, 0, 2, 0], err)
+        check("what is counted only grows", all(it <= other for one, two in zip(found, found[1:]) for it, other in zip(one[3:8], two[3:8])), err)
+        check("one request of a lane is out at most", all(it[8] <= 1 and it[4] - it[8] <= it[5] + it[6] + it[7] + 1 for it in found), err)
         server = Server()
         with open(files[0]) as file:
             status, out, err = progress_run(server.port, ["-"], "--progress", stdin=file)
@@ -62,7 +62,7 @@ def silent_index():
         server.delay = lambda: next(slow)
         status, _, err = progress_run(server.port, [path], "--progress", "--count", "1", "--linger", "0")
         found = [numbers(it) for it in err.split(b"\n")[:-1]]
-        idle = [it[8] for it in found if it and it[4:6] == [2, 1]]
+        idle = [it[9] for it in found if it and it[4:6] == [2, 1]]
         check("seconds since the last answer", status == 0 and None not in found and idle == sorted(idle) and 2 <= idle[-1] <= 5, err)
         server.close()
 
@@ -73,7 +73,7 @@ def no_connection():
         path, port = written(folder, 0, [("1", "{}")]), free_port()
         status, out, err = progress_run(port, [path], "--progress", "--attempts", "4")
         said = b"127.0.0.1:%d: connection refused, trying again\n" % port
-        check("no connection", status == 5 and err.startswith(said) and err.count(b"refused") == 1 and b", out 0, no answer yet\n" in err, (status, err))
+        check("no connection", status == 5 and err.startswith(said) and err.count(b"connection refused") == 1 and b", out 0, no answer yet\n" in err, (status, err))
         args = [RELAY, "run", "--to", "127.0.0.1:%d" % port, "--progress", "--patience", "60", path]
         running = subprocess.Popen(args, stdin=subprocess.DEVNULL, stdout=subprocess.PIPE, stderr=subprocess.PIPE)
         start = time.monotonic()
@@ -83,7 +83,7 @@ def no_connection():
         server.move(port)
         out, err = running.communicate(timeout=60)
         check("said at once", first == said and spent < 20, (first, spent))
-        check("said when it can again", running.returncode == 0 and err.count(b"127.0.0.1:%d: connected\n" % port) == 1 and b"refused" not in err, err)
+        check("said when it can again", running.returncode == 0 and err.count(b"127.0.0.1:%d: connected\n" % port) == 1 and b"connection refused" not in err, err)
         server.close()
 
 

@@ -11,12 +11,14 @@ import threading
 import time
 
 from bulk_server import Server
-from program import check
+from program import check, skip
 from run_cases import judge, operations, relay_run, written
 from stub_cases import free_port
 
 TOP = os.path.dirname(os.path.dirname(os.path.abspath(__file__)))
 NAME = "search.example.org"
+# The proxies, and Debian's package of each.
+PACKAGES = {"nginx": "nginx-light", "haproxy": "haproxy", "stunnel4": "stunnel4"}
 CREDENTIAL = b"authorization: basic " + base64.b64encode(b"relay:secret")
 
 
@@ -29,6 +31,8 @@ def certificate(folder):
 
 class TlsServer(Server):
     """The server of the other tests, over TLS."""
+
+    sees_all = False
 
     def __init__(self, key, chain, **more):
         self.context = ssl.SSLContext(ssl.PROTOCOL_TLS_SERVER)
@@ -156,9 +160,10 @@ def limited(kind, folder, key, chain):
 
 
 def proxies():
-    for kind in ("nginx", "haproxy", "stunnel4"):
-        if shutil.which(kind) is None or shutil.which("openssl") is None:
-            print("SKIPPED: a run through %s, which is not installed" % kind)
+    for kind in PACKAGES:
+        lacking = [package for program, package in ((kind, PACKAGES[kind]), ("openssl", "openssl")) if shutil.which(program) is None]
+        if lacking:
+            skip("a run through %s" % kind, " and ".join(lacking))
             continue
         with tempfile.TemporaryDirectory() as folder:
             key, chain = certificate(folder)

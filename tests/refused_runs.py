@@ -1,7 +1,8 @@
 """Runs `relay run` with every n-th allocation refused, against a `relay stub` without refusals. `refusals.py` calls this.
 
-A run ends within a minute, either out of memory or as it would without refusals. Whatever it sent, the stub's listing has for each
-document a part of what was put, in that order and without duplicates; after a run with status 0 it has everything.
+A run ends within a minute, either out of memory or as it would without refusals. Out of memory is also a thread that does not start: the
+C library reports a refused allocation for a thread as a system that has no thread left. Whatever it sent, the stub's listing has for
+each document a part of what was put, in that order and without duplicates; after a run with status 0 it has everything.
 """
 import os
 import re
@@ -14,6 +15,8 @@ from run_cases import operations, wait_for, written
 from stub_cases import Stub
 
 REFUSED = b"REFUSED\n"
+# How a run ends whose memory was refused: the status, and the line of a thread that did not start.
+NO_MEMORY, NO_THREAD = 4, (3, b"", b"start: Thread\n")
 # A hundred values: first 1, 2, 3, .., then in growing steps, up to more than the number of allocations of a run.
 EVERY = sorted({*range(1, 41), *(int(40 * 1.09**step) for step in range(1, 61))})
 # More connections than a run makes; the test opens and closes the rest, so that the stub ends.
@@ -71,11 +74,15 @@ def run_of(port, files, environment):
     return done.returncode, done.stdout, done.stderr.replace(REFUSED, b""), REFUSED in done.stderr
 
 
-def wrong_end(status, out, err, total):
+def is_out_of_memory(status, out, err):
+    return status == NO_MEMORY or (status, out, err) == NO_THREAD
+
+
+def wrong_end(status, out, err, met, total):
     """Returns what is wrong with how a run ended, or None."""
     if status is None:
         return "has not ended after %d s" % SECONDS
-    if status == 4:
+    if met and is_out_of_memory(status, out, err):
         return None
     counts = DONE.fullmatch(out)
     if status == 0 and counts and sum(map(int, counts.groups())) == total:
@@ -88,7 +95,7 @@ def run_one(every, environment, files, producers):
     stub = Stub(CONNECTIONS)
     wait_for(stub)
     status, out, err, met = run_of(stub.port, files, environment)
-    wrong = wrong_end(status, out, err, sum(map(len, producers))) or wrong_writes(served_to_its_end(stub), producers, status == 0)
+    wrong = wrong_end(status, out, err, met, sum(map(len, producers))) or wrong_writes(served_to_its_end(stub), producers, status == 0)
     return status, met, "relay run with every allocation whose number %d divides refused: %s" % (every, wrong) if wrong else None
 
 
@@ -99,5 +106,5 @@ def check_runs(refusing):
         files = [written(folder, p, ops) for p, ops in enumerate(producers)]
         ends = [run_one(every, refusing(every), files, producers) for every in EVERY]
     statuses = [status for status, _, _ in ends]
-    print("  relay run with every n-th allocation refused, %d values of n: %d ended out of memory, %d with status 0, %d of these with refusals" % (len(EVERY), statuses.count(4), statuses.count(0), sum(status == 0 and met for status, met, _ in ends)), flush=True)
+    print("  relay run with every n-th allocation refused, %d values of n: %d ended out of memory, %d with status 0, %d of these with refusals" % (len(EVERY), statuses.count(NO_MEMORY) + statuses.count(NO_THREAD[0]), statuses.count(0), sum(status == 0 and met for status, met, _ in ends)), flush=True)
     return [wrong for _, _, wrong in ends if wrong]

@@ -74,6 +74,8 @@ def broken(dice, message):
 class BrokenReplies(Server):
     """Applies each request, and breaks two in three replies. How depends only on the seed and the number of the request."""
 
+    tells = False
+
     def __init__(self, seed):
         self.seed, self.played = seed, 0
         super().__init__()
@@ -123,6 +125,8 @@ def broken_replies():
 class EarlyReplies(Server):
     """Answers two in three requests with 503 as soon as their head has arrived. After one of these it reads the body and keeps
     serving the connection; after the other it closes it immediately."""
+
+    sees_all = False
 
     def __init__(self):
         self.begun = 0

@@ -6,7 +6,7 @@ import tempfile
 
 from bulk_server import Server
 from program import RELAY, check
-from run_cases import operations, relay_run, written
+from run_cases import HINT, operations, relay_run, written
 from stub_cases import free_port
 
 
@@ -32,14 +32,17 @@ def what_is_saved():
         check("what is saved", content(report) == lines and done == (5, printed, b""), (done, content(report)))
         server.close()
         path = written(folder, 0, [("1", None)])
+        os.remove(report)
         done = relay_run(free_port(), [path], "--report", report, "--attempts", "1")
         saved = b'{"cause":"GaveUp","id":"1","index":"books","number":1,"producer":0,"sends":1}\n'
-        check("what was given up, and the file is written anew", content(report) == saved and done[0] == 5, (done, content(report)))
+        check("what was given up", content(report) == saved and done[0] == 5, (done, content(report)))
+        open(report, "w").close()
         server = Server(lambda number: 418)
         done = relay_run(server.port, [path], "--report", report)
         saved = b'{"cause":"Request","id":"1","index":"books","number":1,"producer":0,"status":418}\n'
         check("a request that was refused", content(report) == saved and done[0] == 5, (done, content(report)))
         server.close()
+        open(report, "w").close()
         server = Server()
         done = relay_run(server.port, [path], "--report", report)
         check("nothing to save", content(report) == b"" and done == (0, b"applied 1 already 0 reported 0\n", b""), (done, content(report)))
@@ -59,7 +62,7 @@ def files_that_fail():
         done = relay_run(server.port, [path], "--report", "/dev/full")
         check("a full device with nothing to save", done == (0, b"applied 5 already 0 reported 0\n", b""), done)
         done = relay_run(server.port, [path], "--report", "/dev/full")
-        check("a file that cannot be written", done[0] == 3 and done[1].endswith(b"applied 0 already 0 reported 5\n") and done[2] == b"/dev/full: write failed\n", done)
+        check("a file that cannot be written", done[0] == 3 and done[1].endswith(b"applied 0 already 0 reported 5\n") and HINT.fullmatch(done[2].removesuffix(b"/dev/full: write failed\n")), done)
         server.close()
         for report in (path, "-"):
             done = subprocess.run([RELAY, "run", "--to", "x:1", "--report", report, path], stdin=subprocess.DEVNULL, capture_output=True, timeout=60)
@@ -67,4 +70,74 @@ def files_that_fail():
         check("the operations are still there", content(path).count(b"\n") == 10, content(path))
 
 
-GROUPS = (what_is_saved, files_that_fail)
+def refused(path, report, *more, stdin=subprocess.DEVNULL):
+    done = subprocess.run([RELAY, "run", "--to", "127.0.0.1:%d" % free_port(), "--attempts", "1", "--report", report, *more, path], stdin=stdin, capture_output=True, timeout=60)
+    return done.stdout, done.stderr, done.returncode
+
+
+NOT_APART = b"error: --report FILE has to be a file of its own: not '-', and none of those that are read\n"
+NOT_EMPTY = b"error: --report FILE is not empty: --append adds to it, and otherwise it has to be a new or an empty file\n"
+
+
+def files_of_another():
+    """Whatever name a file of operations has as the file of the reports, it is refused and keeps what it has; and so is a file with a
+    content."""
+    with tempfile.TemporaryDirectory() as folder:
+        path = written(folder, 0, operations(0, 5, 5))
+        before = content(path)
+        soft, hard = os.path.join(folder, "soft"), os.path.join(folder, "hard")
+        os.symlink(path, soft)
+        os.link(path, hard)
+        dotted = os.path.join(folder, ".", "ops0.ndjson")
+        for report in (soft, hard, dotted):
+            for more in ((), ("--append",)):
+                done = refused(path, report, *more)
+                check("the same file as %s %s" % (os.path.basename(report), more), done == (b"", NOT_APART, 1) and content(path) == before, done)
+        with open(path, "rb") as stdin:
+            done = refused("-", hard, stdin=stdin)
+        check("the same file as standard input", done == (b"", NOT_APART, 1) and content(path) == before, done)
+        other = written(folder, 1, operations(1, 5, 5))
+        done = refused(other, path)
+        check("a file with a content, the name of the report forgotten", done == (b"", NOT_EMPTY, 1) and content(path) == before, done)
+        done = refused(path, os.path.join(folder, "new"))
+        check("a new file", done[2] == 5 and content(os.path.join(folder, "new")).count(b"\n") == 5, done)
+        done = subprocess.run([RELAY, "run", "--to", "x:1", "--append", path], stdin=subprocess.DEVNULL, capture_output=True, timeout=60)
+        check("usage: --append without --report", done.returncode == 1 and b"--report" in done.stderr, done)
+
+
+def added():
+    """With --append each line of the file is a whole line of a report afterwards: what an earlier run left torn is cut off."""
+    with tempfile.TemporaryDirectory() as folder:
+        path, report = written(folder, 0, [("1", "{}")]), os.path.join(folder, "report")
+        gave_up = b'{"cause":"GaveUp","id":"1","index":"books","number":1,"producer":0,"sends":1}\n'
+        other = b'{"cause":"Spent","id":"2","index":"books","number":7,"producer":0}\n'
+        long = b"x" * 2_000_000
+        for what, before, kept in (
+            ("an empty file", b"", b""),
+            ("whole lines", other + other, other + other),
+            ("a line without its end", other + other[:-1], other + other),
+            ("only a line without its end", other[:-1], other),
+            ("only a torn line", other[:-2], b""),
+            ("a line feed alone", b"\n", b"\n"),
+            ("another text", b"x\ny", b"x\n"),
+            ("a line that is longer than any of a report", other + long, other + long + b"\n"),
+            ("many lines, and a torn one", other * 40_000 + other[:20], other * 40_000),
+        ):
+            with open(report, "wb") as file:
+                file.write(before)
+            done = refused(path, report, "--append")
+            check("added to %s" % what, done[2] == 5 and content(report) == kept + gave_up, (done, content(report)[-300:]))
+        for cut in range(1, len(other)):
+            with open(report, "wb") as file:
+                file.write(other + other[:cut])
+            done = refused(path, report, "--append")
+            wanted = other + (other if cut == len(other) - 1 else b"") + gave_up
+            check("torn at %d" % cut, done[2] == 5 and content(report) == wanted, (done, content(report)))
+        os.remove(report)
+        done = refused(path, report, "--append")
+        check("added to a file that is not there", done[2] == 5 and content(report) == gave_up, done)
+        done = refused(path, "/dev/null", "--append")
+        check("a device is opened as it is", done[2] == 5 and done[1] == b"", done)
+
+
+GROUPS = (what_is_saved, files_that_fail, files_of_another, added)

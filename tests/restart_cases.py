@@ -64,11 +64,12 @@ def lower_epochs():
     """A second run over the same index needs a higher epoch: in the same one, each write is a conflict and is reported."""
     with tempfile.TemporaryDirectory() as folder:
         path = written(folder, 0, [("1", "{}"), ("2", None)])
-        server = Server()
+        server = Server(states=True)
+        same = b"the index has versions of this epoch or of an earlier one: of another run in it, or of another writer\n"
         for epoch, wanted in (
             (3, (0, b"applied 2 already 0 reported 0\n", b"")),
-            (3, (5, b"report 3.0:1 books/1 Conflict\nreport 3.0:2 books/2 Conflict\napplied 0 already 0 reported 2\n", b"")),
-            (2, (5, b"report 2.0:1 books/1 Conflict\nreport 2.0:2 books/2 Conflict\napplied 0 already 0 reported 2\n", b"")),
+            (3, (5, b"report 3.0:1 books/1 Conflict\nreport 3.0:2 books/2 Conflict\napplied 0 already 0 reported 2\n", same)),
+            (2, (5, b"report 2.0:1 books/1 Conflict\nreport 2.0:2 books/2 Conflict\napplied 0 already 0 reported 2\n", b"the index has versions of epoch 3: run again with --epoch 4 or higher\n")),
             (4, (0, b"applied 2 already 0 reported 0\n", b"")),
             (4194303, (0, b"applied 2 already 0 reported 0\n", b"")),
         ):

@@ -10,7 +10,7 @@ BULK, INPUT, KINDS, BODIES = "Bulk text", "Producer input", "Kinds of faults", "
 LINES, APPLY, WORLD, RUN, PICK, STUB = ("`relay %s`" % it for it in ("lines", "apply", "world", "run", "pick", "stub"))
 REPLIES, ITEM, WHOLE, WRITTEN = "Replies", "The verdict on an item", "The verdict on a whole request", "A written reply"
 LANE, SCRIPT, HTTP, COMING = "What a lane does", "The script of the world", "HTTP", "Faults while the bytes come"
-MESSAGES = "Written messages"
+MESSAGES, EPOCHS = "Written messages", "An epoch from the index"
 
 HOMES = {
     "relay": (CODE, {"the options of %s" % it: it for it in (LINES, APPLY, WORLD, RUN, PICK, STUB)}),
@@ -42,6 +42,7 @@ HOMES = {
         "restarts, with requests": SCRIPT,
         "worked schedules": CODE,
     }),
+    "relay_epoch": (EPOCHS, {}),
     "relay_flight": (LANE, {}),
     "relay_held": (LANE, {}),
     "relay_http": (HTTP, {
@@ -64,6 +65,7 @@ HOMES = {
         "the head is sent before": MESSAGES,
         "the answer that is written": MESSAGES,
         "an answer is composed": MESSAGES,
+        "the target of a PUT": "A request",
     }),
     "relay_index": ("The stand-in index", {}),
     "relay_json": (INPUT, {"the items of an array": REPLIES, "the decimal number": REPLIES}),
@@ -105,14 +107,17 @@ HOMES = {
         "what the definitions rule out": CODE,
         "definitions on lists": CODE,
     }),
-    "relay_run": (RUN, {}),
+    "relay_run": (RUN, {"the epoch of a run": EPOCHS}),
     "relay_scenario": (SCRIPT, {"which lines are taken": WORLD, "which calls failed": WORLD, "exit statuses": WORLD}),
     "relay_stub": (STUB, {}),
+    "relay_target": ((EPOCHS, STUB), {"a document as a command line": EPOCHS}),
     "relay_words": ((SCRIPT, RUN), {
         "reading a number": (APPLY, SCRIPT),
         "exit statuses": (LINES, RUN),
         "the operations taken": (LINES, RUN),
     }),
+    "relay_receipts": (RUN, {}),
+    "relay_telling": (RUN, {}),
     "relay_threads": (RUN, {}),
     "relay_wires": (LANE, {}),
     "relay_world": (SCRIPT, {}),
@@ -128,7 +133,8 @@ OUTSIDE = {
     WORLD: ("world_cases.py",),
     RUN: ("run_cases.py", "option_cases.py", "outage_cases.py", "input_cases.py", "report_cases.py", "progress_cases.py"),
     PICK: ("pick_cases.py",),
-    STUB: ("stub_cases.py", "client_cases.py"),
+    EPOCHS: ("epoch_cases.py",),
+    STUB: ("stub_cases.py", "client_cases.py", "epoch_cases.py"),
     HTTP: ("http_fixtures.py", "proxy_cases.py", "client_cases.py"),
 }
 

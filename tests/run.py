@@ -7,18 +7,22 @@ import sys
 
 import apply_cases
 import client_cases
+import epoch_cases
 import input_cases
 import lines_cases
 import option_cases
-import pick_cases
 import outage_cases
+import pause_cases
+import pick_cases
 import progress_cases
 import proxy_cases
+import reason_cases
 import reply_cases
 import report_cases
 import restart_cases
 import run_cases
 import several_cases
+import socket_cases
 import stub_cases
 import too_large_cases
 import world_cases
@@ -35,7 +39,7 @@ def command_line():
     for kind in (b"LineLong", b"NotJson", b"UnsupportedField", b"SourceNewline", b"VersionsSpent", b"relay lines --index"):
         check("help lines names %s" % kind, kind in kinds)
     running = run(["help", "run"]).stdout
-    for word in (b"zcat dump.gz | relay run", b"--timeout <SECONDS>", b"--patience <SECONDS>", b"--report <FILE>", b"--progress", b"12.7 s", b"166 s", b"below twice --count", b"1.4 GB per lane", b"prints and saves none"):
+    for word in (b"zcat dump.gz | relay run", b"--timeout <DURATION>", b"--patience <DURATION>", b"--report <FILE>", b"--progress", b"12.7 s", b"166 s", b"below twice --count", b"1.4 GB per lane", b"prints and saves none"):
         check("help run names %s" % word, word in running)
     script = run(["help", "world"]).stdout
     for word in (b"world LANES", b"put P INDEX ID index SOURCE", b"reply R N ..", b"restart EPOCH", b"NotAbove", b"NumbersSpent", b"BadLine", b"finished yes"):
@@ -65,7 +69,7 @@ def command_line():
 
 
 def main():
-    for group in (*lines_cases.GROUPS, *apply_cases.GROUPS, *stub_cases.GROUPS, *client_cases.GROUPS, *run_cases.GROUPS, *pick_cases.GROUPS, *proxy_cases.GROUPS, *option_cases.GROUPS, *several_cases.GROUPS, *input_cases.GROUPS, *outage_cases.GROUPS, *report_cases.GROUPS, *progress_cases.GROUPS, *reply_cases.GROUPS, *too_large_cases.GROUPS, *restart_cases.GROUPS, *world_cases.GROUPS, command_line):
+    for group in (*lines_cases.GROUPS, *apply_cases.GROUPS, *stub_cases.GROUPS, *client_cases.GROUPS, *run_cases.GROUPS, *pick_cases.GROUPS, *proxy_cases.GROUPS, *reason_cases.GROUPS, *option_cases.GROUPS, *several_cases.GROUPS, *input_cases.GROUPS, *outage_cases.GROUPS, *socket_cases.GROUPS, *pause_cases.GROUPS, *report_cases.GROUPS, *progress_cases.GROUPS, *reply_cases.GROUPS, *too_large_cases.GROUPS, *restart_cases.GROUPS, *epoch_cases.GROUPS, *world_cases.GROUPS, command_line):
         group()
     print("%d passed, %d failed" % (RESULTS["passed"], RESULTS["failed"]))
     sys.exit(RESULTS["failed"] != 0)

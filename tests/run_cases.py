@@ -12,6 +12,8 @@ from program import RELAY, check
 from stub_cases import Stub, free_port
 
 FAULTS = ["drop before", "drop after", "late", "half", "garbage", "no items", "chunked", "interim", "close", "close silently", "twice", "and a half", 429, 503]
+# What a run says of its conflicts.
+HINT = re.compile(rb"the index has versions [^\n]*\n")
 REPORT = re.compile(rb"report (?:\d+\.)?(\d+):(\d+) (\S+)/(\S+) (.*)")
 
 
@@ -40,15 +42,43 @@ def put_to(ops, identity):
     return [source for it, source in ops if it == identity]
 
 
-def judge(name, server, producers, done, reported_may_be_applied=True):
-    """The writes applied to each document are among those put, each once and in order; those that are missing are reported;
-    the counts add up."""
+def judge(name, server, producers, done, attempts=8):
+    """The writes applied to each document are among those put, each once and in order; those that are missing are reported,
+    each with a cause that the server's answers to it give; what an answer settled is not reported; and the counts are those of
+    the answers."""
+    for what, right, found in findings(server, producers, done, attempts):
+        check("%s: %s" % (name, what), right, found)
+
+
+def findings(server, producers, done, attempts=8):
+    """Yields what `judge` looks at, whether it is right, and what was found."""
     status, out, err = done
     lines = out.split(b"\n")
-    reports = {(int(p), int(n)) for p, n, *_ in (REPORT.fullmatch(it).groups() for it in lines[:-2])}
+    reports = {(int(p), int(n)): cause.decode() for p, n, _, _, cause in (REPORT.fullmatch(it).groups() for it in lines[:-2])}
     counts = re.fullmatch(rb"applied (\d+) already (\d+) reported (\d+)", lines[-2])
-    check("%s: the counts" % name, counts is not None and sum(map(int, counts.groups())) == sum(map(len, producers)) and int(counts[3]) == len(reports) == len(lines) - 2, (status, out[-300:], err))
-    check("%s: the status" % name, status == (5 if reports else 0) and err == b"", (status, err))
+    counts = counts and tuple(map(int, counts.groups()))
+    right = counts is not None and sum(counts) == sum(map(len, producers)) and counts[2] == len(reports) == len(lines) - 2
+    yield "the counts", right, (status, out[-300:], err)
+    hinted = HINT.fullmatch(err) if "Conflict" in reports.values() else err == b""
+    yield "the status", status == (5 if reports else 0) and bool(hinted), (status, err)
+    yield "each document has what was put, once, in order", are_applied(server, producers, reports), ""
+    if not server.tells:
+        return
+    answers = answers_of(server, producers)
+    if server.sees_all:
+        yield "each operation was sent", len(answers) == sum(map(len, producers)), (len(answers), sum(map(len, producers)))
+    wrong = [(name, cause, answers.get(name)) for name, cause in reports.items() if not is_true(cause, answers.get(name, []), attempts, server.sees_all)]
+    yield "each cause is what the server answered", wrong == [], wrong[:3]
+    late = [(name, found) for name, found in answers.items() if name not in reports and not may_end(found, server.sees_all)]
+    yield "what is not reported was answered", late == [], late[:3]
+    if server.sees_all and counts and all(("unsure",) not in it for it in answers.values()):
+        ended = [it[-1][1] for name, it in answers.items() if name not in reports and it[-1][0] == "item"]
+        found = (sum(it != 409 for it in ended), sum(it == 409 for it in ended))
+        yield "what counts as applied and as already applied was answered so", counts[:2] == found, (counts, found)
+
+
+def are_applied(server, producers, reports):
+    """Whether the writes applied to each document are what was put to it, each once and in order, but for what is reported."""
     right = True
     for producer, ops in enumerate(producers):
         for identity in {it for it, _ in ops}:
@@ -61,7 +91,86 @@ def judge(name, server, producers, done, reported_may_be_applied=True):
                 elif (producer, number) not in reports:
                     right = False
             right = right and place == len(applied)
-    check("%s: each document has what was put, once, in order" % name, right)
+    return right
+
+
+def answers_of(server, producers):
+    """What the server answered for each operation, by producer and number, one for each request that carried it. The operations
+    of a document have ascending versions in the order in which they were put. Documents of which not all were seen are left
+    out."""
+    versions, found = {}, {}
+    for index, identity, version in server.told:
+        versions.setdefault(identity, []).append((version, index))
+    for producer, ops in enumerate(producers):
+        for identity in {it for it, _ in ops}:
+            numbers = [number for number, (it, _) in enumerate(ops, 1) if it == identity]
+            seen = sorted(versions.get(identity, []))
+            if len(seen) == len(numbers):
+                for number, (version, index) in zip(numbers, seen):
+                    found[producer, number] = server.told[index, identity, version]
+    return found
+
+
+def is_sent_again(answer):
+    """Whether an operation that is answered like this is sent again, as long as attempts are left."""
+    if answer[0] == "whole":
+        return answer[1] in (413, 429, 502, 503, 504)
+    return answer[0] in ("lost", "unsure") or answer[1] in (429, 503)
+
+
+def is_true(cause, answers, attempts, sees_all):
+    """Whether these answers give this cause of a report."""
+    kind, *more = cause.split(" ")
+    last = answers[-1] if answers else None
+    if kind == "GaveUp":
+        sends, halved = int(more[0]), answers.count(("whole", 413))
+        if sees_all:
+            return len(answers) == sends == attempts + halved and all(map(is_sent_again, answers))
+        return len(answers) <= sends and attempts <= sends <= attempts + 14 and all(map(is_sent_again, answers))
+    if kind == "Refused":
+        return last == ("item", int(more[0]), more[1]) and last[1] not in (409, 429, 503)
+    if kind == "Request":
+        return last == ("whole", int(more[0])) and last[1] not in (429, 502, 503, 504)
+    if kind == "Conflict":
+        return last is not None and last[:2] == ("item", 409) and len(answers) == 1
+    return False
+
+
+def may_end(answers, sees_all):
+    """Whether an operation that was answered like this may end as applied, or as already applied."""
+    last = answers[-1]
+    if last[0] == "unsure" or (not sees_all and last[0] == "lost"):
+        return True
+    if last[0] != "item":
+        return False
+    return last[1] in (200, 201, 404) or (last[1] == 409 and len(answers) > 1)
+
+
+def fakes():
+    """The judge sees through relays that report what did not happen."""
+    with tempfile.TemporaryDirectory() as folder:
+        ops = operations(0, 60, 6)
+        path = written(folder, 0, ops)
+        gave_up = b"".join(b"report 0:%d books/%s GaveUp 1\n" % (n, it.encode()) for n, (it, _) in enumerate(ops, 1))
+        server = Server()
+        expose("applies nothing", server, ops, (5, gave_up + b"applied 0 already 0 reported 60\n", b""), "each operation was sent", "each cause is what the server answered")
+        done = relay_run(server.port, [path])
+        check("the judge takes what is right", all(right for _, right, _ in findings(server, [ops], done)), done)
+        expose("applied all and gives up", server, ops, (5, gave_up + b"applied 0 already 0 reported 60\n", b""), "each cause is what the server answered")
+        expose("counts all as already applied", server, ops, (0, b"applied 0 already 60 reported 0\n", b""), "what counts as applied and as already applied was answered so")
+        server.close()
+        server = Server(refuse=lambda meta: 400 if meta["_id"] == "0-3" else None)
+        status, out, err = relay_run(server.port, [path])
+        check("the judge takes a true report", all(right for _, right, _ in findings(server, [ops], (status, out, err))), out)
+        for cause in (b"Bananas 7", b"GaveUp 8", b"Conflict", b"Request 400", b"Refused 401 planned", b"Refused 400 other"):
+            expose(cause.decode(), server, ops, (status, out.replace(b"Refused 400 planned", cause), err), "each cause is what the server answered")
+        server.close()
+
+
+def expose(name, server, ops, done, *wanted):
+    """The judge finds that these are not right."""
+    found = [what for what, right, _ in findings(server, [ops], done) if not right]
+    check("a fake: %s" % name, set(wanted) <= set(found), found)
 
 
 def stub():
@@ -107,7 +216,7 @@ def faults():
             server.close()
         dice = random.Random(11)
         server = Server(lambda number: dice.choice([None, None, *FAULTS]))
-        judge("all faults at once", server, producers, relay_run(server.port, files, "--count", "25", "--linger", "0", "--lanes", "4", "--attempts", "32"))
+        judge("all faults at once", server, producers, relay_run(server.port, files, "--count", "25", "--linger", "0", "--lanes", "4", "--attempts", "32"), 32)
         server.close()
         for status in (400, 401, 500):
             server = Server(lambda number, status=status: status if number == 1 else None)
@@ -202,7 +311,7 @@ def server_that_comes_back():
             time.sleep(0.01)
         server.rest(1)
         running.join()
-        judge("a server that is away for a second", server, producers, done[0])
+        judge("a server that is away for a second", server, producers, done[0], 32)
         check("all is applied when it is back", done[0][1].endswith(b"reported 0\n"), done[0][1][-100:])
         server.close()
 
@@ -276,6 +385,15 @@ def options():
             (["--to", "x:1"], b"FILE"),
             ([plain], b"--to"),
             (["--to", "a b:1", plain], b"ASCII"),
+            (["--to", "localhost", plain], b"has no port: it has to be HOST:PORT"),
+            (["--to", "http://localhost/", plain], b"has no port"),
+            (["--to", "[::1]", plain], b"has no port"),
+            (["--to", "::1:9200", plain], b"has to be HOST:PORT"),
+            (["--to", "x:0", plain], b"has to be HOST:PORT"),
+            (["--to", "x:65536", plain], b"has to be HOST:PORT"),
+            (["--to", "x:9200/books", plain], b"without a path or credentials"),
+            (["--to", "relay:secret@x:9200", plain], b"without a path or credentials"),
+            (["--to", "https://x:9200", plain], b"docs/OPERATING.md shows under \"TLS, credentials and compression\""),
             (["--to", "x:1", "--lanes", "9", plain], b"'9'"),
             (["--to", "x:1", "--lanes", "0", plain], b"'0'"),
             (["--to", "x:1", "--count", "10001", plain], b"10001"),
@@ -291,4 +409,23 @@ def options():
             check("usage: run %s" % args[:4], done.returncode == 1 and said in done.stderr and done.stdout == b"", (done.returncode, done.stderr))
 
 
-GROUPS = (stub, faults, replies_that_nobody_asked_for, connections_used_again, connections_closed_while_idle, server_that_comes_back, memory, no_server, files_at_fault, options)
+def addresses():
+    """`http://` and a slash are dropped; a host that is unknown ends the run before the report is opened, and costs no attempt."""
+    with tempfile.TemporaryDirectory() as folder:
+        path, report = written(folder, 0, [("1", "{}")]), os.path.join(folder, "report")
+        for epoch, form in enumerate(("http://127.0.0.1:%d", "http://127.0.0.1:%d/", "127.0.0.1:%d/", "http://localhost:%d")):
+            server = Server()
+            done = subprocess.run([RELAY, "run", "--to", form % server.port, path], stdin=subprocess.DEVNULL, capture_output=True, timeout=60)
+            host = b"Host: " + (form % server.port).replace("http://", "").rstrip("/").encode() + b"\r\n"
+            check("an address as %s" % form, (done.returncode, done.stdout, done.stderr) == (0, b"applied 1 already 0 reported 0\n", b"") and host in server.heads[0], (done, server.heads))
+            server.close()
+        start = time.monotonic()
+        done = subprocess.run([RELAY, "run", "--to", "http://nowhere.invalid:9200", "--report", report, path], stdin=subprocess.DEVNULL, capture_output=True, timeout=60)
+        right = (done.returncode, done.stdout, done.stderr) == (3, b"", b"nowhere.invalid:9200: unknown host\n")
+        check("a host that is unknown", right and not os.path.exists(report), done)
+        check("it is said at once", time.monotonic() - start < 12, time.monotonic() - start)
+        done = subprocess.run([RELAY, "run", "--to", "nowhere.invalid:9200", "--patience", "2s", path], stdin=subprocess.DEVNULL, capture_output=True, timeout=60)
+        check("a host that is unknown, with patience", (done.returncode, done.stderr) == (3, b"nowhere.invalid:9200: unknown host\n") and time.monotonic() - start > 1.9, done)
+
+
+GROUPS = (addresses, stub, fakes, faults, replies_that_nobody_asked_for, connections_used_again, connections_closed_while_idle, server_that_comes_back, memory, no_server, files_at_fault, options)

@@ -82,7 +82,7 @@ def hostile():
             plan = {number: chance.choice(FAULTS) for number in range(1, 2000) if chance.random() < 0.3}
             server = Server(plan.get, delay=lambda: random.random() * 0.01)
             done = relay_run(server.port, files, "--lanes", "%d" % lanes, "--flying", "%d" % flying, "--count", "%d" % count, "--attempts", "32")
-            judge("faults with %d lanes of %d in flight, turn %d" % (lanes, flying, turn), server, producers, done)
+            judge("faults with %d lanes of %d in flight, turn %d" % (lanes, flying, turn), server, producers, done, 32)
             server.close()
 
 
@@ -94,7 +94,7 @@ def restarts():
         server = Server(delay=lambda: 0.05)
         threading.Timer(0.3, server.rest, (0.5,)).start()
         done = relay_run(server.port, files, "--lanes", "2", "--flying", "8", "--count", "2", "--attempts", "32")
-        judge("a server that restarts with 8 in flight", server, producers, done)
+        judge("a server that restarts with 8 in flight", server, producers, done, 32)
         server.close()
 
 

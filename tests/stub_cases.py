@@ -19,10 +19,11 @@ def free_port():
 class Stub:
     """A running `relay stub`."""
 
-    def __init__(self, requests, refuse=None, stdout=subprocess.PIPE, most=None):
+    def __init__(self, requests, refuse=None, stdout=subprocess.PIPE, most=None, reasons=False):
         self.port = free_port()
         more = [] if refuse is None else ["--refuse", refuse]
         more += [] if most is None else ["--max", "%d" % most]
+        more += ["--reasons"] if reasons else []
         args = ["stub", "--listen", "127.0.0.1:%d" % self.port, "--requests", "%d" % requests, *more]
         self.process = subprocess.Popen([RELAY, *args], stdin=subprocess.DEVNULL, stdout=stdout, stderr=subprocess.PIPE)
 

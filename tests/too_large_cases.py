@@ -31,18 +31,18 @@ def to_a_server():
         for early in (None, "drains", "closes"):
             server = Server(most=700, early=early)
             done = relay_run(server.port, files, "--count", "30", "--linger", "0", "--lanes", "2", "--attempts", "32")
-            judge("a limit of 700 bytes, %s" % early, server, producers, done)
+            judge("a limit of 700 bytes, %s" % early, server, producers, done, 32)
             if early != "closes":
                 check("nothing is reported, %s" % early, done[1].endswith(b"reported 0\n"), done[1][-200:])
             server.close()
         faults = ["drop after", "half", 503, 429]
         server = Server(lambda number: faults[number % 4] if number % 5 == 0 else None, most=500)
-        judge("a limit among other faults", server, producers, relay_run(server.port, files, "--count", "50", "--linger", "0", "--lanes", "4", "--attempts", "32"))
+        judge("a limit among other faults", server, producers, relay_run(server.port, files, "--count", "50", "--linger", "0", "--lanes", "4", "--attempts", "32"), 32)
         server.close()
         large = [("0-%d" % n, '{"n":"%s"}' % ("x" * 2000 if n == 5 else n)) for n in range(20)]
         server = Server(most=1000)
         done = relay_run(server.port, [written(folder, 0, large)], "--count", "20", "--attempts", "1")
-        judge("one that is too large alone", server, [large], done)
+        judge("one that is too large alone", server, [large], done, 1)
         reports = [REPORT.fullmatch(line) for line in done[1].split(b"\n")[:-2]]
         check("it alone is reported", [it.groups()[1:] for it in reports] == [(b"6", b"books", b"0-5", b"Request 413")], done[1])
         server.close()
