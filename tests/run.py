@@ -1,4 +1,4 @@
-"""End-to-end tests of the built program: `python3 tests/run.py PROGRAM`.
+"""End-to-end tests of the built program: `python3 tests/run.py PROGRAM [[--except] SUITE..]`, all suites if none is named.
 
 Each case has the program's arguments, its standard input and what it must do. The expected values are worked out by hand
 from the formats, and never taken from the program's own output.
@@ -68,9 +68,23 @@ def command_line():
         check("usage: %s" % args, done.returncode == 1 and said in done.stderr and done.stdout == b"", done)
 
 
+# The suites by name, in the order in which they run.
+SUITES = {
+    "lines": lines_cases.GROUPS, "apply": apply_cases.GROUPS, "stub": stub_cases.GROUPS, "client": client_cases.GROUPS, "run": run_cases.GROUPS,
+    "pick": pick_cases.GROUPS, "proxy": proxy_cases.GROUPS, "reason": reason_cases.GROUPS, "option": option_cases.GROUPS, "several": several_cases.GROUPS,
+    "input": input_cases.GROUPS, "outage": outage_cases.GROUPS, "socket": socket_cases.GROUPS, "pause": pause_cases.GROUPS, "report": report_cases.GROUPS,
+    "progress": progress_cases.GROUPS, "reply": reply_cases.GROUPS, "too_large": too_large_cases.GROUPS, "restart": restart_cases.GROUPS,
+    "epoch": epoch_cases.GROUPS, "world": world_cases.GROUPS, "command_line": (command_line,),
+}
+
+
 def main():
-    for group in (*lines_cases.GROUPS, *apply_cases.GROUPS, *stub_cases.GROUPS, *client_cases.GROUPS, *run_cases.GROUPS, *pick_cases.GROUPS, *proxy_cases.GROUPS, *reason_cases.GROUPS, *option_cases.GROUPS, *several_cases.GROUPS, *input_cases.GROUPS, *outage_cases.GROUPS, *socket_cases.GROUPS, *pause_cases.GROUPS, *report_cases.GROUPS, *progress_cases.GROUPS, *reply_cases.GROUPS, *too_large_cases.GROUPS, *restart_cases.GROUPS, *epoch_cases.GROUPS, *world_cases.GROUPS, command_line):
-        group()
+    names = sys.argv[2:] or list(SUITES)
+    if names[0] == "--except":
+        names = [it for it in SUITES if it not in names[1:]]
+    for name in names:
+        for group in SUITES[name]:
+            group()
     print("%d passed, %d failed" % (RESULTS["passed"], RESULTS["failed"]))
     sys.exit(RESULTS["failed"] != 0)
 

@@ -2,7 +2,7 @@
 
 Each test crate is built with run-time checks and run by `rt try --test`, as many at once as there are processors. `rt try` also
 builds the program so, and removes it when it ends: it is told to run `relay stub`, and while that waits for a connection the
-program is copied. Then the end-to-end suites run on the copy. The last line is 'N passed, M failed', counted over the lines above.
+program is copied. Then the end-to-end suites run on the copy, some beside each other. The last line is 'N passed, M failed', counted over the lines above.
 """
 import concurrent.futures
 import os
@@ -20,8 +20,8 @@ TESTS = os.path.dirname(os.path.abspath(__file__))
 BUILD_SECONDS, TEST_SECONDS = 900, 300
 # Freed memory is used again at once, since one case compares how much memory two runs take, and a run may take longer.
 CHECKED = {**os.environ, "ASAN_OPTIONS": "quarantine_size_mb=0:thread_local_quarantine_size_kb=0", "SECONDS_FOR_A_RUN": "300"}
-# The end-to-end suites, and whether each takes the program.
-SUITES = (("run.py", True), ("http_fixtures.py", False))
+# The end-to-end suites in which time does not matter. They run beside the others: with run-time checks each of these sets takes minutes.
+TIMELESS = (("pick",), ("world", "command_line"), ("lines", "apply"))
 
 
 def programs():
@@ -72,7 +72,7 @@ def tried(crate):
     return done.returncode == 0 and bool(counts), "%s passed, %s failed" % counts[-1] if counts else "no result", done.stdout
 
 
-def suite(name, words):
+def suite(name, *words):
     """Runs a suite, and returns whether it passes, the last line that it prints, and the whole output."""
     words = [sys.executable, os.path.join(TESTS, name), *words]
     done = subprocess.run(words, env=CHECKED, stdout=subprocess.PIPE, stderr=subprocess.STDOUT, text=True, errors="replace")
@@ -98,9 +98,13 @@ def main():
             trials = {pool.submit(tried, name): name for name in reversed(crates)}
             results = [tell(trials[it], *it.result()) for it in concurrent.futures.as_completed(trials)]
         results.append(tell("relay", built.result(), "built" if built.result() else "not built", ""))
-        # Their cases are about time too, so they run once nothing else does.
-        for name, takes_program in SUITES if built.result() else ():
-            results.append(tell("tests/" + name, *suite(name, [program] if takes_program else [])))
+        # The cases of the other suites are about time too, so they run once the processors have time for them.
+        sets = {"run.py " + " ".join(names): ["run.py", program, *names] for names in TIMELESS}
+        sets["run.py, the others"] = ["run.py", program, "--except", *sum(TIMELESS, ())]
+        sets["http_fixtures.py"] = ["http_fixtures.py"]
+        with concurrent.futures.ThreadPoolExecutor(len(sets)) as pool:
+            running = {pool.submit(suite, *words): name for name, words in sets.items()} if built.result() else {}
+            results += [tell("tests/" + running[it], *it.result()) for it in concurrent.futures.as_completed(running)]
     print("%d passed, %d failed, in %.0f minutes" % (sum(results), len(results) - sum(results), (time.monotonic() - began) / 60))
     sys.exit(not all(results))
 
