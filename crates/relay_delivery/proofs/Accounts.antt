@@ -1,6 +1,6 @@
 -- What is promised of all accepted operations, over incarnations, and how acts and restarts
 -- preserve it.
-use Rattle.std.proofs.Common.{◌≡◌, ℕ, ◌+◌, ◌<◌, List, [], ◌∷◌, ◌++◌, refl, sym, ap, ◌∙◌, subst, ⊎_elim, inl, inr, arith}
+use Rattle.std.proofs.Common.{◌≡◌, ℕ, ◌+◌, ◌<◌, List, [], ◌∷◌, ◌++◌, Option, refl, sym, ap, ◌∙◌, subst, ⊎_elim, inl, inr, arith}
 use Rattle.relay_action.specs.declared.write.Write.{Write}
 use Rattle.relay_action.specs.declared.operation.Op.{Op}
 use Rattle.relay_results.specs.Words.{Mem}
@@ -11,16 +11,17 @@ use Rattle.relay_results.proofs.Steps.{continues_itself, continues_on}
 use Rattle.relay_delivery.specs.Attribution.{IsAttribution}
 use Rattle.relay_delivery.specs.Machine.{Config}
 use Rattle.relay_delivery.specs.Delivery.{terms_of}
+use Rattle.relay_delivery.specs.Lanes.{IsFinished}
 use Rattle.relay_delivery.specs.Together.{Together, act, outside_of}
 use Rattle.relay_delivery.specs.Restarts.{Incarnation, incarnation_of, Life, born, Happening, Acts, Restarts, happen, EpochsAreAbove, MayBe, after_happenings, AllMayBe}
-use Rattle.relay_delivery.specs.Incarnations.{accepted_over, op_dealt, ops_over, attributed_together, SoundTogether, CompleteTogether, FreshTogether, ActTogether, RestartTogether, TogetherMay, TogetherRuns, TogetherContinues, first_of}
-use Rattle.relay_delivery.proofs.Queues.{taken_distinct, was_accepted}
+use Rattle.relay_delivery.specs.Incarnations.{accepted_over, op_dealt, ops_over, attributed_together, IsCompleteTogether, SoundTogether, CompleteTogether, CompleteTogetherIfStated, FreshTogether, ActTogether, RestartTogether, TogetherMay, TogetherRuns, TogetherContinues}
+use Rattle.relay_delivery.proofs.Queues.{TellAll, taken_distinct, was_accepted}
 use Rattle.relay_delivery.proofs.Versions.{version_in, version_there}
 use Rattle.relay_delivery.proofs.Joined.{versions, assignment, true_report, once, in_one_lane, all_accounted}
 use Rattle.relay_delivery.proofs.Sharing.{true_all, happens_in_lanes}
 use Rattle.relay_delivery.proofs.Gathered.{w, runs_once}
 use Rattle.relay_delivery.proofs.OneOutside.{act_continues}
-use Rattle.relay_delivery.proofs.Lives.{past_of, IsOfThese, IncarnationFacts, AreAbove, LifeFacts, running_facts, above_more, happen_keeps, facts_of_life, facts_together}
+use Rattle.relay_delivery.proofs.Lives.{past_of, IsOfThese, IncarnationFacts, AreAbove, LifeFacts, running_facts, above_more, happen_keeps, facts_of_life, facts_together, tell_if_below, tell_if_stated}
 use Rattle.relay_delivery.proofs.Parts.{AreParts, op_of_write, parts}
 
 -- what was accepted in one of them was accepted
@@ -35,7 +36,7 @@ over_from (x ∷ ps) p q o m a = ⊎_elim
 abbrev pub next : Config → Config
 next g = record { epoch = g.epoch + 1; first = g.first + g.deals; deals = g.deals; max = g.max; cap = g.cap }
 
-module _ (g : Config) (lane_of : Document → ℕ) (ended : List Incarnation) (s : Together) (f : LifeFacts lane_of (record { ended = ended; config = g; together = s })) where
+module _ (stored : Document → Option ℕ) (g : Config) (lane_of : Document → ℕ) (ended : List Incarnation) (s : Together) (f : LifeFacts stored lane_of (record { ended = ended; config = g; together = s })) where
   abbrev this : Incarnation
   this = incarnation_of g s
 
@@ -48,7 +49,7 @@ module _ (g : Config) (lane_of : Document → ℕ) (ended : List Incarnation) (s
   all_facts : (p : Incarnation) → Mem p all → IncarnationFacts lane_of p
   all_facts p m = ⊎_elim {C = IncarnationFacts lane_of p}
       (λ old. f.each p old)
-      (λ e. subst (λ x. IncarnationFacts lane_of x) (sym e) (running_facts g lane_of (past_of ended g) s f.together))
+      (λ e. subst (λ x. IncarnationFacts lane_of x) (sym e) (running_facts g lane_of (past_of stored ended) s f.together))
       (Mem-push_cases p ended this m)
 
   -- each applied write is of one of them
@@ -87,14 +88,14 @@ module _ (g : Config) (lane_of : Document → ℕ) (ended : List Incarnation) (s
       m
 
 pub sound_together : SoundTogether
-sound_together g lane_of ended s c =
-    let f = facts_of_life g lane_of ended s c in
-    let past = past_of ended g in
+sound_together stored g lane_of ended s c =
+    let f = facts_of_life stored g lane_of ended s c in
+    let past = past_of stored ended in
     let lanes = f.together.lanes in
     record {
-      attribution = attribution g lane_of ended s f;
-      in_order = λ k e. (its_parts g lane_of ended s f k).in_order e;
-      by_epoch = λ k. (its_parts g lane_of ended s f k).by_epoch;
+      attribution = attribution stored g lane_of ended s f;
+      in_order = λ k e. (its_parts stored g lane_of ended s f k).in_order e;
+      by_epoch = λ k. (its_parts stored g lane_of ended s f k).by_epoch;
       versions = versions g lane_of past s.lanes lanes;
       assignment = assignment g lane_of past s.lanes lanes;
       assigned = λ l place o at.
@@ -115,28 +116,39 @@ sound_together g lane_of ended s c =
       in_one_lane = in_one_lane g lane_of past s.lanes lanes;
     }
 
-pub complete_together : CompleteTogether
-complete_together g lane_of ended s c done p o m =
-    let f = facts_of_life g lane_of ended s c in
+-- what was accepted is accounted for, if the conflicts tell which of them were with an own version
+accounted_together : (stored : Document → Option ℕ) (g : Config) (lane_of : Document → ℕ) (ended : List Incarnation) (s : Together) (f : LifeFacts stored lane_of (record { ended = ended; config = g; together = s }))
+    → TellAll g (past_of stored ended) s.lanes → IsFinished s.lanes → IsCompleteTogether lane_of s (attributed_together g lane_of ended s)
+accounted_together stored g lane_of ended s f tells done p o m =
     let k = document_of o.key in
     ⊎_elim
     (λ a. inl (subst (λ x. Mem x (attributed_together g lane_of ended s k)) a.op
-    (is_named g lane_of ended s f k ((outside_of lane_of s).applied k) a.write a.is_in (record { which = incarnation_of g s; among = Mem-last ended (incarnation_of g s); of_one = a.one }))))
+    (is_named stored g lane_of ended s f k ((outside_of lane_of s).applied k) a.write a.is_in (record { which = incarnation_of g s; among = Mem-last ended (incarnation_of g s); of_one = a.one }))))
     (λ r. inr r)
-    (all_accounted g lane_of (past_of ended g) s.lanes f.together.lanes done p o m)
+    (all_accounted g lane_of (past_of stored ended) s.lanes f.together.lanes tells done p o m)
+
+pub complete_together : CompleteTogether
+complete_together stored g lane_of ended s c below =
+    let f = facts_of_life stored g lane_of ended s c in
+    accounted_together stored g lane_of ended s f (tell_if_below stored g lane_of ended s f below)
+
+pub complete_together_if_stated : CompleteTogetherIfStated
+complete_together_if_stated stored g lane_of ended s c others states =
+    let f = facts_of_life stored g lane_of ended s c in
+    accounted_together stored g lane_of ended s f (tell_if_stated stored g lane_of ended s f others states)
 
 pub together_may : TogetherMay
-together_may g lane_of ended s c = happens_in_lanes g lane_of (past_of ended g) s (facts_together g lane_of ended s c)
+together_may stored g lane_of ended s c = happens_in_lanes g lane_of (past_of stored ended) s (facts_together stored g lane_of ended s c)
 
 pub together_runs : TogetherRuns
-together_runs g lane_of ended s i place o from c may =
-    let f = facts_together g lane_of ended s c in
-    (w g lane_of (past_of ended g) s f i place o from may, runs_once g lane_of (past_of ended g) s f i place o from may)
+together_runs stored g lane_of ended s i place o from c may =
+    let f = facts_together stored g lane_of ended s c in
+    (w g lane_of (past_of stored ended) s f i place o from may, runs_once g lane_of (past_of stored ended) s f i place o from may)
 
 -- ---- one after another
 
 pub fresh_together : FreshTogether
-fresh_together g lane_of s fresh = record { first = g; start = s; fresh = fresh; happenings = []; may = tt; reached = refl }
+fresh_together stored g lane_of s fresh = record { first = g; start = s; fresh = fresh; happenings = []; may = tt; reached = refl }
 
 lived_more : (lane_of : Document → ℕ) (hs : List Happening) (h : Happening) (l : Life) → after_happenings lane_of (hs ++ h ∷ []) l ≡ happen lane_of h (after_happenings lane_of hs l)
 lived_more lane_of [] h l = refl
@@ -147,7 +159,7 @@ may_more lane_of [] h l before may = (may, tt)
 may_more lane_of (x ∷ hs) h l before may = (before.0, may_more lane_of hs h (happen lane_of x l) before.1 may)
 
 pub act_together : ActTogether
-act_together g lane_of ended s a c may now = record {
+act_together stored g lane_of ended s a c may now = record {
   first = c.first;
   start = c.start;
   fresh = c.fresh;
@@ -157,7 +169,7 @@ act_together g lane_of ended s a c may now = record {
 }
 
 pub restart_together : RestartTogether
-restart_together g new lane_of ended s c up = record {
+restart_together stored g new lane_of ended s c up = record {
   first = c.first;
   start = c.start;
   fresh = c.fresh;
@@ -171,33 +183,23 @@ epochs_are_above e f deals more max least cap other lt few = record { epoch = lt
 
 -- ---- the one outside
 
-life_continues : (lane_of : Document → ℕ) (hs : List Happening) (l : Life) → LifeFacts lane_of l → AllMayBe lane_of hs l → Continues (outside_of lane_of l.together) (outside_of lane_of (after_happenings lane_of hs l).together)
-life_continues lane_of [] l f may = continues_itself (outside_of lane_of l.together)
-life_continues lane_of (Acts a ∷ hs) l f may =
+life_continues : (stored : Document → Option ℕ) (lane_of : Document → ℕ) (hs : List Happening) (l : Life) → LifeFacts stored lane_of l → AllMayBe lane_of hs l
+    → Continues (outside_of lane_of l.together) (outside_of lane_of (after_happenings lane_of hs l).together)
+life_continues stored lane_of [] l f may = continues_itself (outside_of lane_of l.together)
+life_continues stored lane_of (Acts a ∷ hs) l f may =
     continues_on (outside_of lane_of l.together) (outside_of lane_of (act l.config lane_of a l.together)) (outside_of lane_of (after_happenings lane_of hs (happen lane_of (Acts a) l)).together)
-    (act_continues l.config lane_of (past_of l.ended l.config) l.together f.together a may.0.0)
-    (life_continues lane_of hs (happen lane_of (Acts a) l) (happen_keeps lane_of l f (Acts a) may.0) may.1)
-life_continues lane_of (Restarts g ∷ hs) l f may = life_continues lane_of hs (happen lane_of (Restarts g) l) (happen_keeps lane_of l f (Restarts g) may.0) may.1
-
--- the first config stays the first
-first_push : (ps : List Incarnation) (p : Incarnation) (g : Config) → first_of (ps ++ p ∷ []) g ≡ first_of ps p.config
-first_push [] p g = refl
-first_push (q ∷ ps) p g = refl
-
-first_same : (lane_of : Document → ℕ) (hs : List Happening) (l : Life) → first_of (after_happenings lane_of hs l).ended (after_happenings lane_of hs l).config ≡ first_of l.ended l.config
-first_same lane_of [] l = refl
-first_same lane_of (Acts a ∷ hs) l = first_same lane_of hs (happen lane_of (Acts a) l)
-first_same lane_of (Restarts g ∷ hs) l = first_same lane_of hs (happen lane_of (Restarts g) l) ∙ first_push l.ended (incarnation_of l.config l.together) g
+    (act_continues l.config lane_of (past_of stored l.ended) l.together f.together a may.0.0)
+    (life_continues stored lane_of hs (happen lane_of (Acts a) l) (happen_keeps stored lane_of l f (Acts a) may.0) may.1)
+life_continues stored lane_of (Restarts g ∷ hs) l f may = life_continues stored lane_of hs (happen lane_of (Restarts g) l) (happen_keeps stored lane_of l f (Restarts g) may.0) may.1
 
 pub together_continues : TogetherContinues
-together_continues g lane_of ended s c =
+together_continues stored g lane_of ended s c =
     let fresh = c.fresh in
-    let start_facts = facts_of_life c.first lane_of [] c.start (fresh_together c.first lane_of c.start fresh) in
-    let first : c.first ≡ first_of ended g = sym (first_same lane_of c.happenings (born c.first c.start)) ∙ ap (λ (l : Life). first_of l.ended l.config) c.reached in
+    let start_facts = facts_of_life stored c.first lane_of [] c.start (fresh_together stored c.first lane_of c.start fresh) in
     record {
       start = outside_of lane_of c.start;
-      opening = record { requests = fresh.sent; runs = fresh.runs; applied = λ k. (fresh.lanes.lane (lane_of k)).new.opening.applied k };
-      below = λ k u e. subst (λ (h : Config). u < h.first) first ((fresh.lanes.lane (lane_of k)).below k u e);
+      opening = record { requests = fresh.sent; runs = fresh.runs; applied = λ k. (fresh.lanes.lane (lane_of k)).opening.applied k };
+      found = λ k. fresh.found (lane_of k) k;
       continues = subst (λ (l : Life). Continues (outside_of lane_of c.start) (outside_of lane_of l.together)) c.reached
-          (life_continues lane_of c.happenings (born c.first c.start) start_facts c.may);
+          (life_continues stored lane_of c.happenings (born c.first c.start) start_facts c.may);
     }

@@ -34,7 +34,7 @@ own_stated None own u e t = absurd (cc)
 own_stated (Some v) own u e t = let d = equal v own t in let x : v ≡ u = cc in sym x ∙ d
 
 module _ (g : Config) (past : Past) (c : Core) (f : CoreFacts g past c) (number : ℕ) (q : Request) (stands : slice_get c.outside.requests number ≡ Some q) (unanswered : q.answer ≡ Unanswered) (a : Answer)
-    (answered : a ≡ Unanswered → ⊥) (honest : IsHonest c.outside.runs number q.writes a) (tells : TellsOwn g past c.outside.runs) where
+    (answered : a ≡ Unanswered → ⊥) (honest : IsHonest c.outside.runs number q.writes a) where
   abbrev requests : List Request
   requests = c.outside.requests
 
@@ -243,16 +243,16 @@ module _ (g : Config) (past : Past) (c : Core) (f : CoreFacts g past c) (number 
       (x.from u stored)
 
   -- if its own version is stated, it was stored, and is that of an applied write
-  before_if_stated : (h : Held) → Mem h c.held → IsKnown past.versions (c.outside.applied (document_of h.op.key)) h.version → WasApplied h
-  before_if_stated h m known =
+  before_if_stated : ((u place : ℕ) → past.versions u → place < g.deals → u ≡ g.first + place → ⊥) → (h : Held) → Mem h c.held → IsKnown past.versions (c.outside.applied (document_of h.op.key)) h.version → WasApplied h
+  before_if_stated foreign h m known =
       let d = (f.held h m).dealt in
       ⊎_elim
-      (λ old. absurd (f.foreign h.version d.place old d.within d.version))
+      (λ old. absurd (foreign h.version d.place old d.within d.version))
       (λ z. own_applied h m z.0 z.1 z.2)
       known
 
-  applied_before : (h : Held) → Mem h c.held → IsHere g number q.writes a h → turn g number q.writes a h ≡ Already → WasApplied h
-  applied_before h m w t =
+  applied_before : TellsOwn g past c.outside.runs → (h : Held) → Mem h c.held → IsHere g number q.writes a h → turn g number q.writes a h ≡ Already → WasApplied h
+  applied_before tells h m w t =
       let s = (says h w Already t).1 in
       let y = entry_run h w s.0 s.1 in
       let r = its_run h m w s.0 s.1 in
@@ -260,16 +260,16 @@ module _ (g : Config) (past : Past) (c : Core) (f : CoreFacts g past c) (number 
       ⊎_elim
       (λ low. let u = r.if_conflict conflict in before_if_low low h m u.0 u.1 u.2)
       (λ states.
-      let u = states y.run y.among conflict in
+      let u = states.1 y.run y.among conflict in
       let own : u.0 ≡ h.version = own_stated (stored_in s.0.error) h.version u.0 (sym (ap stored_in y.error) ∙ u.1) s.3 in
-      before_if_stated h m (subst (λ v. IsKnown past.versions (c.outside.applied (document_of h.op.key)) v) own (r.if_stated conflict u.0 u.1)))
+      before_if_stated states.0 h m (subst (λ v. IsKnown past.versions (c.outside.applied (document_of h.op.key)) v) own (r.if_stated conflict u.0 u.1)))
       tells
 
   -- one that does not fly here is neither
-  pub ended : (h : Held) → Mem h c.held → (turn g number q.writes a h ≡ Applied) ⊎ (turn g number q.writes a h ≡ Already) → WasApplied h
-  ended h m t = ⊎_elim
+  pub ended : TellsOwn g past c.outside.runs → (h : Held) → Mem h c.held → (turn g number q.writes a h ≡ Applied) ⊎ (turn g number q.writes a h ≡ Already) → WasApplied h
+  ended tells h m t = ⊎_elim
       (λ w. ⊎_elim (λ e. absurd (cc (e, w.stays))) (λ e. absurd (cc (e, w.stays))) t)
-      (λ w. ⊎_elim (λ e. applied_now h m w e) (λ e. applied_before h m w e) t)
+      (λ w. ⊎_elim (λ e. applied_now h m w e) (λ e. applied_before tells h m w e) t)
       (away_or_here g number q.writes a h)
 
   -- ---- causes
@@ -453,8 +453,8 @@ module _ (g : Config) (past : Past) (c : Core) (f : CoreFacts g past c) (number 
       let same : h.0 ≡ j.0 = f.alone h.0 j.0 h.1 j.1 (sym vh ∙ e ∙ vj) in
       kept_is (turn g number q.writes a h.0) h.0 k h.2 ∙ ap (λ (z : Held). kept_as (turn g number q.writes a z) z) same ∙ sym (kept_is (turn g number q.writes a j.0) j.0 l j.2)
 
-  somewhere : (place : ℕ) (o : Op) → slice_get c.taken place ≡ Some o → IsSomewhere g c o place → IsSomewhere g settled_core o place
-  somewhere place o s x = ⊎_elim
+  somewhere : TellsOwn g past c.outside.runs → (place : ℕ) (o : Op) → slice_get c.taken place ≡ Some o → IsSomewhere g c o place → IsSomewhere g settled_core o place
+  somewhere tells place o s x = ⊎_elim
       (λ h.
       let d = (f.held h.held_op h.is_in).dealt in
       let at : d.place ≡ place = (let v = d.version in let u = h.version in omega (arith, v, u)) in
@@ -462,7 +462,7 @@ module _ (g : Config) (past : Past) (c : Core) (f : CoreFacts g past c) (number 
       ⊎_elim
       (λ y. inl (record { held_op = y.0; is_in = y.1; version = y.2 ∙ h.version }))
       (λ z. ⊎_elim
-      (λ y. inr (inl (record { write = write_of h.held_op; is_in = subst (λ p. Mem (write_of h.held_op) (c.outside.applied (document_of p.key))) same (ended h.held_op h.is_in y); version = h.version })))
+      (λ y. inr (inl (record { write = write_of h.held_op; is_in = subst (λ p. Mem (write_of h.held_op) (c.outside.applied (document_of p.key))) same (ended tells h.held_op h.is_in y); version = h.version })))
       (λ y. inr (inr (record { report = report_on h.held_op.op y.0; is_in = Mem-right (report_on h.held_op.op y.0) c.reports (reports_from g number q.writes a c.held) y.1; name = ap (λ p. (report_on p y.0).name) same })))
       z)
       (goes_to g number q.writes a c.held h.held_op h.is_in))
@@ -475,7 +475,6 @@ module _ (g : Config) (past : Past) (c : Core) (f : CoreFacts g past c) (number 
   settled_keeps : CoreFacts g past settled_core
   settled_keeps = record {
     past_below = f.past_below;
-    foreign = f.foreign;
     held = held_kept;
     alone = alone_kept;
     in_rise = rising-settled g number q.writes a c.held f.in_rise;
@@ -497,14 +496,14 @@ module _ (g : Config) (past : Past) (c : Core) (f : CoreFacts g past c) (number 
         let e = totals-settled g number q.writes a c.held in
         let r = length-append c.reports (reports_from g number q.writes a c.held) in
         omega (arith, t, r, e);
-    nothing_lost = λ place o s. somewhere place o s (f.nothing_lost place o s);
+    nothing_lost = λ tells place o s. somewhere tells place o s (f.nothing_lost tells place o s);
   }
 
 pub no_unanswered : (runs : List Ran) (number : ℕ) (ws : List Write) (a : Answer) → IsHonest runs number ws a → a ≡ Unanswered → ⊥
 no_unanswered runs number ws a h e = subst (λ b. IsHonest runs number ws b) e h
 
-pub answer_keeps : (g : Config) (past : Past) (c : Core) (f : CoreFacts g past c) (number : ℕ) (a : Answer) → MayAnswer c.outside number a → TellsOwn g past c.outside.runs → CoreFacts g past (settle g number a c)
-answer_keeps g past c f number a may tells =
+pub answer_keeps : (g : Config) (past : Past) (c : Core) (f : CoreFacts g past c) (number : ℕ) (a : Answer) → MayAnswer c.outside number a → CoreFacts g past (settle g number a c)
+answer_keeps g past c f number a may =
     subst (λ p. CoreFacts g past (record {
       taken = c.taken;
       held = still_held g number (writes_or p) a c.held;
@@ -513,4 +512,4 @@ answer_keeps g past c f number a may tells =
       already = c.already + how_many is_already_fate g number (writes_or p) a c.held;
       outside = record { requests = update number (with_answer a) c.outside.requests; runs = c.outside.runs; stored = c.outside.stored; before = c.outside.before; applied = c.outside.applied };
     })) (sym may.sent)
-    (settled_keeps g past c f number may.request may.sent may.open_yet a (no_unanswered c.outside.runs number may.request.writes a may.honest) may.honest tells)
+    (settled_keeps g past c f number may.request may.sent may.open_yet a (no_unanswered c.outside.runs number may.request.writes a may.honest) may.honest)

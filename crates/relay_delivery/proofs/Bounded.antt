@@ -17,7 +17,7 @@ use Rattle.relay_delivery.proofs.Send.{no_place, launched_here}
 use Rattle.relay_delivery.proofs.Fates.{turn, kept-from, retried_left, away_or_here}
 use Rattle.relay_delivery.proofs.Halving.{halvings-half, halvings_few, halvings-below}
 use Rattle.relay_delivery.proofs.Facts.{CoreFacts}
-use Rattle.relay_delivery.proofs.Keeps.{tells_none, fresh_none, none_past, fresh_facts, facts_of, step_keeps}
+use Rattle.relay_delivery.proofs.Keeps.{fresh_none, none_past, fresh_facts, facts_of, step_keeps}
 use Rattle.relay_results.proofs.Fates.{says_as}
 use Rattle.relay_action.specs.Actions.{kind_of}
 
@@ -194,7 +194,7 @@ step_tries g c facts (Answers number a) may some f h m =
 
 steps_tries : (g : Config) (ss : List Step) (c : Core) → CoreFacts g (none_past g) c → AllMayStep g ss c → 0 < g.max → HasAll g c → HasAll g (steps_of g ss c)
 steps_tries g [] c facts may some f = f
-steps_tries g (s ∷ ss) c facts may some f = steps_tries g ss (step g s c) (step_keeps g (none_past g) c facts (tells_none g c) s may.0) may.1 some (step_tries g c facts s may.0 some f)
+steps_tries g (s ∷ ss) c facts may some f = steps_tries g ss (step g s c) (step_keeps g (none_past g) c facts s may.0) may.1 some (step_tries g c facts s may.0 some f)
 
 one_send : (g : Config) (c : Core) (chosen : List Held) → HasAll g c → MaySend c chosen → chosen ≢ [] → sent_of (step g (Sends chosen) c) + tries_left g.max (step g (Sends chosen) c).held ≤ sent_of c + tries_left g.max c.held
 one_send g c [] f may some = absurd (some refl)
@@ -219,7 +219,7 @@ drained : (g : Config) (ss : List Step) (c : Core) → CoreFacts g (none_past g)
 drained g [] c facts some f may d = omega arith
 drained g (s ∷ ss) c facts some f may d =
     let a = one_step g c s f may.0 d.0 in
-    let b = drained g ss (step g s c) (step_keeps g (none_past g) c facts (tells_none g c) s may.0) some (step_tries g c facts s may.0 some f) may.1 d.1 in omega (arith, a, b)
+    let b = drained g ss (step g s c) (step_keeps g (none_past g) c facts s may.0) some (step_tries g c facts s may.0 some f) may.1 d.1 in omega (arith, a, b)
 
 pub all_tries : (g : Config) (c : Core) → 0 < g.max → CameAbout g c → HasAll g c
 all_tries g c some r =

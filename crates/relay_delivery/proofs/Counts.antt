@@ -25,7 +25,7 @@ use Rattle.relay_delivery.proofs.Take.{is_new_held}
 use Rattle.relay_delivery.proofs.Send.{no_place, launched_here}
 use Rattle.relay_delivery.proofs.Answer.{no_unanswered}
 use Rattle.relay_delivery.proofs.Fates.{turn, kept-from, IsHere, away_or_here}
-use Rattle.relay_delivery.proofs.Keeps.{tells_none, fresh_none, none_past, fresh_facts, step_keeps}
+use Rattle.relay_delivery.proofs.Keeps.{fresh_none, none_past, fresh_facts, step_keeps}
 use Rattle.relay_delivery.proofs.Tallies.{first, first_left, first_whole, first_carries, from-push, from-answered, IsFateOf, again_none, of_applied, of_already}
 
 -- ---- counts of a list
@@ -432,7 +432,7 @@ step_counted g c (Answers number a) facts k may = answer_counted g c facts k num
 
 steps_counted : (g : Config) (ss : List Step) (c : Core) → CoreFacts g (none_past g) c → CountedCore c → AllMayStep g ss c → CountedCore (steps_of g ss c)
 steps_counted g [] c facts k may = k
-steps_counted g (s ∷ ss) c facts k may = steps_counted g ss (step g s c) (step_keeps g (none_past g) c facts (tells_none g c) s may.0) (step_counted g c s facts k may.0) may.1
+steps_counted g (s ∷ ss) c facts k may = steps_counted g ss (step g s c) (step_keeps g (none_past g) c facts s may.0) (step_counted g c s facts k may.0) may.1
 
 fresh_counted : (g : Config) (c : Core) → IsFresh g c → CountedCore c
 fresh_counted g c s = record {

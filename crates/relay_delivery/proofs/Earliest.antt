@@ -14,7 +14,7 @@ use Rattle.relay_delivery.proofs.Dealt.{dealt_before}
 use Rattle.relay_delivery.proofs.Take.{is_new_held}
 use Rattle.relay_delivery.proofs.Send.{launched_op, launched_version, launched_among}
 use Rattle.relay_delivery.proofs.Fates.{turn, kept-from, kept_version, kept_op}
-use Rattle.relay_delivery.proofs.Keeps.{tells_none, fresh_none, none_past, fresh_facts, step_keeps, facts_of}
+use Rattle.relay_delivery.proofs.Keeps.{fresh_none, none_past, fresh_facts, step_keeps, facts_of}
 
 abbrev pub FliesFirst : List Held → Type 0
 FliesFirst hs = (h j : Held) (f : Place) → Mem h hs → Mem j hs → h.flies ≡ Some f → document_of j.op.key ≡ document_of h.op.key → h.version ≤ j.version
@@ -91,7 +91,7 @@ step_first g c (Answers number a) facts first may = answer_first g number (write
 
 steps_first : (g : Config) (ss : List Step) (c : Core) → CoreFacts g (none_past g) c → FliesFirst c.held → AllMayStep g ss c → FliesFirst (steps_of g ss c).held
 steps_first g [] c facts first may = first
-steps_first g (s ∷ ss) c facts first may = steps_first g ss (step g s c) (step_keeps g (none_past g) c facts (tells_none g c) s may.0) (step_first g c s facts first may.0) may.1
+steps_first g (s ∷ ss) c facts first may = steps_first g ss (step g s c) (step_keeps g (none_past g) c facts s may.0) (step_first g c s facts first may.0) may.1
 
 pub earliest_flies : EarliestFlies
 earliest_flies g c r =

@@ -11,53 +11,39 @@ use Rattle.relay_delivery.proofs.Facts.{AreRising}
 use Rattle.relay_delivery.proofs.Keeps.{facts_of}
 use Rattle.relay_delivery.proofs.Fitting.{take_from, clock_from, send_from, run_from, answer_from, new_core, new_is_new, fresh_from, sound_where, complete_where}
 
--- Fits of this kind go on along the calls, if for each outside on the way what is held rises in version: `ok` says of an
--- outside what that needs, and holds of what was before.
-module _ (begin : Config → Core → Type 0) (ok : Outside → Type 0) (rising : (g : Config) (c : Core) → CameAboutFrom begin g c → ok c.outside → AreRising c.held)
-    (before_run : (o : Outside) (r : Ran) → MayRun o r → ok (after (outside.Runs r) o) → ok o) (before_met : (c : Call) (o : Outside) → ok (met c o) → ok o) where
-  before_runs : (rs : List Ran) (o : Outside) → AllMayRun rs o → ok (after_runs rs o) → ok o
-  before_runs [] o may k = k
-  before_runs (r ∷ rs) o may k = before_run o r may.0 (before_runs rs (after (outside.Runs r) o) may.1 k)
-
+-- fits of this kind go on along the calls, if what is held rises in version
+module _ (begin : Config → Core → Type 0) (rising : (g : Config) (c : Core) → CameAboutFrom begin g c → AreRising c.held) where
   runs_fit : (rs : List Ran) (s : State) (taken : List Op) (o : Outside) → AllMayRun rs o → FitsFrom begin s taken o → FitsFrom begin s taken (after_runs rs o)
   runs_fit [] s taken o may f = f
   runs_fit (r ∷ rs) s taken o may f = runs_fit rs s taken (after (outside.Runs r) o) may.1 (run_from begin s r taken o may.0 f)
 
-  call_fits : (c : Call) (s : State) (taken : List Op) (o : Outside) → MayCall c s → MayMeet c o → ok o → FitsFrom begin s taken o → FitsFrom begin (call c s) (taken ++ taken_by c) (met c o)
-  call_fits (Takes op bytes) s taken o may meets k f = take_from begin s op bytes taken o f
-  call_fits (Ticks clock) s taken o may meets k f = subst (λ ops. FitsFrom begin (call (Ticks clock) s) ops o) (sym (append-nil taken)) (clock_from begin s clock taken o f)
-  call_fits (Sends chosen) s taken o may meets k f =
+  call_fits : (c : Call) (s : State) (taken : List Op) (o : Outside) → MayCall c s → MayMeet c o → FitsFrom begin s taken o → FitsFrom begin (call c s) (taken ++ taken_by c) (met c o)
+  call_fits (Takes op bytes) s taken o may meets f = take_from begin s op bytes taken o f
+  call_fits (Ticks clock) s taken o may meets f = subst (λ ops. FitsFrom begin (call (Ticks clock) s) ops o) (sym (append-nil taken)) (clock_from begin s clock taken o f)
+  call_fits (Sends chosen) s taken o may meets f =
       subst (λ ops. FitsFrom begin (call (Sends chosen) s) ops (met (Sends chosen) o)) (sym (append-nil taken))
-      (send_from begin s chosen taken o may.0 may.1 f (rising s.config f.core f.came_about (subst (λ x. ok x) (sym f.outside) k)))
-  call_fits (Answers number a) s taken o may meets k f =
+      (send_from begin s chosen taken o may.0 may.1 f (rising s.config f.core f.came_about))
+  call_fits (Answers number a) s taken o may meets f =
       subst (λ ops. FitsFrom begin (call (Answers number a) s) ops (met (Answers number a) o)) (sym (append-nil taken)) (answer_from begin s number a taken o may.0 meets f)
 
-  before_calls : (cs : List Call) (o p : Outside) → Explains cs o p → ok p → ok o
-  before_calls [] o p x k = before_runs x.0 o x.1 (subst (λ q. ok q) x.2 k)
-  before_calls (c ∷ cs) o p x k = before_runs x.0 o x.1 (before_met c (after_runs x.0 o) (before_calls cs (met c (after_runs x.0 o)) p x.3 k))
-
-  calls_fit : (cs : List Call) (s : State) (taken : List Op) (o p : Outside) → AllMayCall cs s → Explains cs o p → ok p → FitsFrom begin s taken o → FitsFrom begin (calls_of cs s) (taken ++ taken_in cs) p
-  calls_fit [] s taken o p may x k f =
+  calls_fit : (cs : List Call) (s : State) (taken : List Op) (o p : Outside) → AllMayCall cs s → Explains cs o p → FitsFrom begin s taken o → FitsFrom begin (calls_of cs s) (taken ++ taken_in cs) p
+  calls_fit [] s taken o p may x f =
       subst (λ ops. FitsFrom begin s ops p) (sym (append-nil taken)) (subst (FitsFrom begin s taken) (sym x.2) (runs_fit x.0 s taken o x.1 f))
-  calls_fit (c ∷ cs) s taken o p may x k f =
+  calls_fit (c ∷ cs) s taken o p may x f =
       let q = after_runs x.0 o in
-      let here = call_fits c s taken q may.0 x.2 (before_met c q (before_calls cs (met c q) p x.3 k)) (runs_fit x.0 s taken o x.1 f) in
-      subst (λ ops. FitsFrom begin (calls_of cs (call c s)) ops p) (append_assoc taken (taken_by c) (taken_in cs)) (calls_fit cs (call c s) (taken ++ taken_by c) (met c q) p may.1 x.3 k here)
+      let here = call_fits c s taken q may.0 x.2 (runs_fit x.0 s taken o x.1 f) in
+      subst (λ ops. FitsFrom begin (calls_of cs (call c s)) ops p) (append_assoc taken (taken_by c) (taken_in cs)) (calls_fit cs (call c s) (taken ++ taken_by c) (met c q) p may.1 x.3 here)
 
-  pub explained_from : (s : State) (taken : List Op) (r : Reached s taken) (o p : Outside) → IsOpening o → begin s.config (new_core o) → Explains r.calls o p → ok p → FitsFrom begin s taken p
-  explained_from s taken r o p opening fresh x k =
-      let f = calls_fit r.calls (fresh_state s.config) [] o p r.may x k (fresh_from begin s.config o opening fresh) in
+  pub explained_from : (s : State) (taken : List Op) (r : Reached s taken) (o p : Outside) → IsOpening o → begin s.config (new_core o) → Explains r.calls o p → FitsFrom begin s taken p
+  explained_from s taken r o p opening fresh x =
+      let f = calls_fit r.calls (fresh_state s.config) [] o p r.may x (fresh_from begin s.config o opening fresh) in
       subst (λ ops. FitsFrom begin s ops p) r.took (subst (λ (t : State). FitsFrom begin t (taken_in r.calls) p) r.reached f)
 
 -- ---- if the stored versions are below those that the lane assigns
 
-abbrev any_outside : Outside → Type 0
-any_outside o = Unit {0}
-
 pub explained_fits : ExplainedFits
 explained_fits s taken r o p begins x =
-    explained_from IsFresh any_outside (λ g c came k. (facts_of g c came).in_rise) (λ o r may k. tt) (λ c o k. tt) s taken r o p begins.opening
-    (record { new = new_is_new o begins.opening; below = begins.below }) x tt
+    explained_from IsFresh (λ g c came. (facts_of g c came).in_rise) s taken r o p begins.opening (record { new = new_is_new o begins.opening; below = begins.below }) x
 
 pub explained_sound : ExplainedIsSound
 explained_sound s taken r o p begins x names = sound_where s taken p (explained_fits s taken r o p begins x) names

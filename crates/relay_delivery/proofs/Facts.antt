@@ -107,11 +107,12 @@ abbrev pub ReportFact : Config → List Op → List Held → Outside → Report 
 ReportFact g taken held s r = SpentFact g taken r ⊎ CauseFact g taken held s r
 
 -- Why a conflict that may be with the own version of a repeat is: each version from before is below those that are assigned,
--- or each conflict states the stored version.
+-- or none is one of them, and each conflict states the stored version.
 abbrev pub TellsOwn : Config → Past → List Ran → Type 0
 TellsOwn g past runs =
     ((u : ℕ) → past.versions u → u < g.first)
-    ⊎ ((r : Ran) → Mem r runs → r.outcome.status ≡ 409 → (u : ℕ) × (stored_in r.outcome.error ≡ Some u))
+    ⊎ (((u place : ℕ) → past.versions u → place < g.deals → u ≡ g.first + place → ⊥)
+    × ((r : Ran) → Mem r runs → r.outcome.status ≡ 409 → (u : ℕ) × (stored_in r.outcome.error ≡ Some u)))
 
 -- what became of the operation at a place
 pub record IsHeldAt (g : Config) (held : List Held) (place : ℕ) : Type 0 where
@@ -151,8 +152,6 @@ AreRising (h ∷ hs) = ((j : Held) → Mem j hs → h.version < j.version) × Ar
 -- below the first one assigned.
 pub record CoreFacts (g : Config) (past : Past) (c : Core) : Type 0 where
   pub past_below : (w : Write) → past.writes w → w.version < g.first
-  -- a version from before is none that it assigns
-  pub foreign : (u place : ℕ) → past.versions u → place < g.deals → u ≡ g.first + place → ⊥
   pub held : (h : Held) → Mem h c.held → HeldFact g c.taken c.outside.requests h
   -- one entry has a version
   pub alone : (h j : Held) → Mem h c.held → Mem j c.held → h.version ≡ j.version → h ≡ j
@@ -165,4 +164,4 @@ pub record CoreFacts (g : Config) (past : Past) (c : Core) : Type 0 where
   pub apart : (n : OpName) → count (is_held_as n) c.held + count (is_report_as n) c.reports ≤ count (is_taken_as n) c.taken
   -- each operation is held, done or reported, and not two of these
   pub totals : length c.held + (c.applied + c.already) + length c.reports ≡ length c.taken
-  pub nothing_lost : (place : ℕ) (o : Op) → slice_get c.taken place ≡ Some o → IsSomewhere g c o place
+  pub nothing_lost : TellsOwn g past c.outside.runs → (place : ℕ) (o : Op) → slice_get c.taken place ≡ Some o → IsSomewhere g c o place

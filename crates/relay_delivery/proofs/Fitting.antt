@@ -21,7 +21,7 @@ use Rattle.relay_delivery.specs.Bound.{tries_left}
 use Rattle.relay_delivery.proofs.Bounded.{within_tries_left, left-kept, all_tries}
 use Rattle.relay_delivery.proofs.Earliest.{earliest_flies, one_flies}
 use Rattle.relay_results.proofs.Lists.{true_or_false, and_left, and_right, and_both, not_true, equal_test, some_same, any_false, at-left, at-last, at-update_other, Mem-cases, Mem-one, Mem-map, map-Mem, Mem-filter, sub_joined, filter_sub, Mem-sub, AllDistinct-sub, sub-map, length-update, equal}
-use Rattle.relay_delivery.proofs.Facts.{Past, AreRising, CoreFacts}
+use Rattle.relay_delivery.proofs.Facts.{Past, TellsOwn, AreRising, CoreFacts}
 use Rattle.relay_delivery.proofs.Dealt.{with_answer}
 use Rattle.relay_delivery.proofs.Keeps.{none_past, tells_none, facts_of}
 use Rattle.relay_delivery.proofs.Answer.{ended, no_unanswered}
@@ -296,16 +296,16 @@ pub sound_where : SoundWhereItFits
 sound_where s taken out f distinct = sound_from IsFresh none_past (λ g w m. m) s taken out f (facts_of s.config f.core f.came_about) distinct
 
 pub complete_from : (begin : Config → Core → Type 0) (past : Config → Past) → ((g : Config) (w : Write) → (past g).writes w → ⊥) → (s : State) (taken : List Op) (out : Outside) (f : FitsFrom begin s taken out)
-    → CoreFacts s.config (past s.config) f.core → HasDistinctNames taken → s.held ≡ [] → IsComplete taken s.reports (applied_ops s.config taken out)
-complete_from begin past nothing s taken out f facts distinct none =
+    → CoreFacts s.config (past s.config) f.core → TellsOwn s.config (past s.config) f.core.outside.runs → HasDistinctNames taken → s.held ≡ [] → IsComplete taken s.reports (applied_ops s.config taken out)
+complete_from begin past nothing s taken out f facts tells distinct none =
     let c = f.core in
     let d = subst (λ os. AllDistinct (map name_of os)) (sym f.took) distinct in
     subst (λ os. IsComplete os s.reports (applied_ops s.config os out)) f.took
     (subst (λ o. IsComplete c.taken s.reports (applied_ops s.config c.taken o)) f.outside
-    (subst (λ rs. IsComplete c.taken rs (applied_ops s.config c.taken c.outside)) (sym f.is_of.reports) (complete s.config (past s.config) (nothing s.config) c facts d (sym f.is_of.held ∙ ap held_of none))))
+    (subst (λ rs. IsComplete c.taken rs (applied_ops s.config c.taken c.outside)) (sym f.is_of.reports) (complete s.config (past s.config) (nothing s.config) c facts d tells (sym f.is_of.held ∙ ap held_of none))))
 
 pub complete_where : CompleteWhereItFits
-complete_where s taken out f distinct none = complete_from IsFresh none_past (λ g w m. m) s taken out f (facts_of s.config f.core f.came_about) distinct none
+complete_where s taken out f distinct none = complete_from IsFresh none_past (λ g w m. m) s taken out f (facts_of s.config f.core f.came_about) (tells_none s.config f.core) distinct none
 
 pub total_where : TotalWhereItFits
 total_where s taken out f =

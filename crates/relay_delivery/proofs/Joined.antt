@@ -13,7 +13,7 @@ use Rattle.relay_delivery.specs.Delivery.{terms_of, names_of}
 use Rattle.relay_delivery.specs.Lanes.{Lanes, Move, Puts, Closes, Fetches, Steps, after_fetch, move, MayMove, IsFinished, NothingAfterClose}
 use Rattle.relay_delivery.proofs.Versions.{version_in, is_assignment}
 use Rattle.relay_delivery.proofs.Whole.{IsAppliedAs, reports_true, reports_once, accounted}
-use Rattle.relay_delivery.proofs.Queues.{LanesFacts, is_for, taken_distinct, was_accepted, one_name}
+use Rattle.relay_delivery.proofs.Queues.{LanesFacts, TellAll, is_for, taken_distinct, was_accepted, one_name}
 use Rattle.relay_delivery.proofs.Facts.{Past}
 
 -- a report of a lane is true of the outside of that lane
@@ -70,15 +70,15 @@ module _ (g : Config) (lane_of : Document → ℕ) (past : ℕ → Past) (w : La
       sym pa.1 ∙ ap (λ (o : Op). lane_of (document_of o.key)) same ∙ pb.1
 
   -- when all is done, each accepted operation was applied, or is reported
-  pub all_accounted : IsFinished w → (p : ℕ) (o : Op) → Mem o (w.accepted p)
+  pub all_accounted : TellAll g past w → IsFinished w → (p : ℕ) (o : Op) → Mem o (w.accepted p)
       → IsAppliedAs g (w.lane (lane_of (document_of o.key))) o ⊎ Mem (name_of o) (names_of (w.lane (lane_of (document_of o.key))).reports)
-  all_accounted done p o m =
+  all_accounted tells done p o m =
       let l = lane_of (document_of o.key) in
       let from : o.producer ≡ p = at_producer p o m in
       let for_it = filter-Mem (is_for lane_of l) o (w.accepted p) m (equal_test l l refl) in
       let there = (Mem-filter (is_from p) o ((w.lane l).taken ++ w.queue l) (subst (λ os. Mem o os) (sym (f.order l p)) for_it)).0 in
       let took = ⊎_elim {C = Mem o (w.lane l).taken} (λ t. t) (λ q. absurd (subst (λ os. Mem o os) (done.queues l) q)) (Mem-cases o (w.lane l).taken (w.queue l) there) in
-      accounted g (past l) (w.lane l) (f.lane l) (taken_distinct g lane_of past w f l) (done.lanes l) o took
+      accounted g (past l) (w.lane l) (f.lane l) (taken_distinct g lane_of past w f l) (tells l) (done.lanes l) o took
     where
       at_producer : (p : ℕ) (o : Op) → Mem o (w.accepted p) → o.producer ≡ p
       at_producer p o m = let i = Mem-at o (w.accepted p) m in (f.numbers p i.0 o i.1).0

@@ -22,14 +22,10 @@ none_past g = record { writes = λ w. ⊥; versions = λ u. u < g.first }
 pub tells_none : (g : Config) (c : Core) → TellsOwn g (none_past g) c.outside.runs
 tells_none g c = inl (λ u lt. lt)
 
-pub below_foreign : (g : Config) (u place : ℕ) → u < g.first → place < g.deals → u ≡ g.first + place → ⊥
-below_foreign g u place lt within e = omega (arith, lt, e)
-
-pub fresh_facts : (g : Config) (past : Past) → ((w : Write) → past.writes w → ⊥) → ((u place : ℕ) → past.versions u → place < g.deals → u ≡ g.first + place → ⊥) → (c : Core) → IsNew c
+pub fresh_facts : (g : Config) (past : Past) → ((w : Write) → past.writes w → ⊥) → (c : Core) → IsNew c
     → ((k : Document) (u : ℕ) → c.outside.stored k ≡ Some u → past.versions u) → CoreFacts g past c
-fresh_facts g past none foreign c s from = record {
+fresh_facts g past none c s from = record {
   past_below = λ w m. absurd (none w m);
-  foreign = foreign;
   held = λ h m. absurd (none_in c.held h s.held m);
   alone = λ h j m mj e. absurd (none_in c.held h s.held m);
   in_rise = subst (λ hs. AreRising hs) (sym s.held) tt;
@@ -56,44 +52,27 @@ fresh_facts g past none foreign c s from = record {
       let z' : length {A = Held} [] ≡ 0 = refl in
       let z'' : length {A = Report} [] ≡ 0 = refl in
       omega (arith, h, r, t, a, b, z, z', z'');
-  nothing_lost = λ place o y. absurd (none_at c.taken place o s.taken y);
+  nothing_lost = λ tells place o y. absurd (none_at c.taken place o s.taken y);
 }
 
 pub fresh_none : (g : Config) (c : Core) → IsFresh g c → CoreFacts g (none_past g) c
-fresh_none g c s = fresh_facts g (none_past g) (λ w m. m) (below_foreign g) c s.new s.below
+fresh_none g c s = fresh_facts g (none_past g) (λ w m. m) c s.new s.below
 
-pub step_keeps : (g : Config) (past : Past) (c : Core) (f : CoreFacts g past c) → TellsOwn g past c.outside.runs → (s : Step) → MayStep s c → CoreFacts g past (step g s c)
-step_keeps g past c f tells (Takes o) may = take_keeps g past c f o
-step_keeps g past c f tells (Sends chosen) may = send_keeps g past c f chosen may
-step_keeps g past c f tells (Runs r) may = run_keeps g past c f r may
-step_keeps g past c f tells (Answers number a) may = answer_keeps g past c f number a may tells
+pub step_keeps : (g : Config) (past : Past) (c : Core) (f : CoreFacts g past c) (s : Step) → MayStep s c → CoreFacts g past (step g s c)
+step_keeps g past c f (Takes o) may = take_keeps g past c f o
+step_keeps g past c f (Sends chosen) may = send_keeps g past c f chosen may
+step_keeps g past c f (Runs r) may = run_keeps g past c f r may
+step_keeps g past c f (Answers number a) may = answer_keeps g past c f number a may
 
--- what was run stays so
-runs_stay : (g : Config) (s : Step) (c : Core) → MayStep s c → (r : Ran) → Mem r c.outside.runs → Mem r (step g s c).outside.runs
-runs_stay g (Takes o) c may r m = m
-runs_stay g (Sends chosen) c may r m = m
-runs_stay g (Runs x) c may r m =
-    subst (λ rs. Mem r rs) (sym (step_runs_item c.outside (after (outside.Runs x) c.outside) (record { run = x; may = may; reached = refl })).runs) (Mem-left r c.outside.runs (x ∷ []) m)
-runs_stay g (Answers number a) c may r m = m
-
--- so what told of all runs tells of the earlier ones
-tells_before : (g : Config) (past : Past) (s : Step) (c : Core) → MayStep s c → TellsOwn g past (step g s c).outside.runs → TellsOwn g past c.outside.runs
-tells_before g past s c may tells = ⊎_elim (λ low. inl low) (λ states. inr (λ r m e. states r (runs_stay g s c may r m) e)) tells
-
-tells_at_first : (g : Config) (past : Past) (ss : List Step) (c : Core) → AllMayStep g ss c → TellsOwn g past (steps_of g ss c).outside.runs → TellsOwn g past c.outside.runs
-tells_at_first g past [] c may tells = tells
-tells_at_first g past (s ∷ ss) c may tells = tells_before g past s c may.0 (tells_at_first g past ss (step g s c) may.1 tells)
-
-pub steps_keep : (g : Config) (past : Past) (ss : List Step) (c : Core) → CoreFacts g past c → AllMayStep g ss c → TellsOwn g past (steps_of g ss c).outside.runs → CoreFacts g past (steps_of g ss c)
-steps_keep g past [] c f may tells = f
-steps_keep g past (s ∷ ss) c f may tells =
-    steps_keep g past ss (step g s c) (step_keeps g past c f (tells_at_first g past (s ∷ ss) c may tells) s may.0) may.1 tells
+pub steps_keep : (g : Config) (past : Past) (ss : List Step) (c : Core) → CoreFacts g past c → AllMayStep g ss c → CoreFacts g past (steps_of g ss c)
+steps_keep g past [] c f may = f
+steps_keep g past (s ∷ ss) c f may = steps_keep g past ss (step g s c) (step_keeps g past c f s may.0) may.1
 
 -- what came about has them
 pub facts_of : (g : Config) (c : Core) → CameAbout g c → CoreFacts g (none_past g) c
 facts_of g c r =
     subst (λ d. CoreFacts g (none_past g) d) r.reached
-    (steps_keep g (none_past g) r.steps r.start (fresh_none g r.start r.fresh) r.may (tells_none g (steps_of g r.steps r.start)))
+    (steps_keep g (none_past g) r.steps r.start (fresh_none g r.start r.fresh) r.may)
 
 -- then each write that was sent is of an operation that was taken
 pub own_sent : (g : Config) (past : Past) → ((w : Write) → past.writes w → ⊥) → (c : Core) (f : CoreFacts g past c) (w : Write) → IsSent c.outside.requests w → IsOfOne g c.taken w

@@ -1,6 +1,6 @@
 -- To whose operations writes are attributed: what acts and restarts change of it.
 use Rattle.std.proofs.Common.{◌≡◌, ℕ, zero, suc, ◌-◌, List, [], ◌∷◌, ◌++◌, Bool, true, false, ◌==◌, refl, sym, ap, ◌∙◌, inl, inr, append-nil}
-use Rattle.std.specs.Prelude.{option_to_list, slice_get, if◌then◌else◌}
+use Rattle.std.specs.Prelude.{Option, option_to_list, slice_get, if◌then◌else◌}
 use Rattle.relay_action.specs.declared.write.Write.{Write}
 use Rattle.relay_action.specs.declared.operation.Op.{Op}
 use Rattle.relay_results.specs.Words.{Mem}
@@ -21,11 +21,11 @@ use Rattle.relay_delivery.proofs.Accounts.{next, all_above, of_all}
 abbrev pub AllFound : (ℕ → List Op) → List Write → Type 0
 AllFound f ws = (x : Write) → Mem x ws → (o : Op) × (f x.version ≡ o ∷ [])
 
-pub all_found : (g : Config) (lane_of : Document → ℕ) (ended : List Incarnation) (s : Together) → LifeFacts lane_of (record { ended = ended; config = g; together = s }) → (k : Document)
+pub all_found : (stored : Document → Option ℕ) (g : Config) (lane_of : Document → ℕ) (ended : List Incarnation) (s : Together) → LifeFacts stored lane_of (record { ended = ended; config = g; together = s }) → (k : Document)
     → AllFound (op_dealt (with_running ended g s) (lane_of k)) ((outside_of lane_of s).applied k)
-all_found g lane_of ended s f k x m =
-    let a = of_all g lane_of ended s f k x m in
-    (a.of_one.op, op_of_write (with_running ended g s) (next g) (all_above g lane_of ended s f) (lane_of k) x a)
+all_found stored g lane_of ended s f k x m =
+    let a = of_all stored g lane_of ended s f k x m in
+    (a.of_one.op, op_of_write (with_running ended g s) (next g) (all_above stored g lane_of ended s f) (lane_of k) x a)
 
 pub ops_same_over : (is js : List Incarnation) (l : ℕ) (ws : List Write) → ((x : Write) → Mem x ws → op_dealt js l x.version ≡ op_dealt is l x.version) → ops_over js l ws ≡ ops_over is l ws
 ops_same_over is js l [] same = refl
@@ -62,15 +62,15 @@ dealt_more (p ∷ is) i j l v o more same taken e = by (dealt_more is i j l v o 
     by again false q = again q
 
 -- if each lane has taken what it had taken, or more, and its lists are unchanged
-pub names_kept : (g : Config) (lane_of : Document → ℕ) (ended : List Incarnation) (s t : Together) → LifeFacts lane_of (record { ended = ended; config = g; together = s })
+pub names_kept : (stored : Document → Option ℕ) (g : Config) (lane_of : Document → ℕ) (ended : List Incarnation) (s t : Together) → LifeFacts stored lane_of (record { ended = ended; config = g; together = s })
     → ((l : ℕ) → (more : List Op) × ((t.lanes.lane l).taken ≡ (s.lanes.lane l).taken ++ more)) → ((l : ℕ) → (t.lanes.lane l).outside.applied ≡ (s.lanes.lane l).outside.applied)
     → (k : Document) → attributed_together g lane_of ended t k ≡ attributed_together g lane_of ended s k
-names_kept g lane_of ended s t f more applied k =
+names_kept stored g lane_of ended s t f more applied k =
     let l = lane_of k in
     let ws = (outside_of lane_of s).applied k in
     ap (λ h. ops_over (with_running ended g t) l (h k)) (applied l)
     ∙ ops_same_over (with_running ended g s) (with_running ended g t) l ws
-    (λ x m. let o = all_found g lane_of ended s f k x m in dealt_more ended (incarnation_of g s) (incarnation_of g t) l x.version o.0 (more l).0 refl (more l).1 o.1 ∙ sym o.1)
+    (λ x m. let o = all_found stored g lane_of ended s f k x m in dealt_more ended (incarnation_of g s) (incarnation_of g t) l x.version o.0 (more l).0 refl (more l).1 o.1 ∙ sym o.1)
 
 lane_by : {A : Type 0} (see : Core → A) (w : Lanes) (l m : ℕ) (c : Core) (b : Bool) → (m == l) ≡ b → see c ≡ see (w.lane l) → see (if b then c else w.lane m) ≡ see (w.lane m)
 lane_by see w l m c true e same = same ∙ ap (λ n. see (w.lane n)) (sym (equal m l e))
@@ -91,22 +91,22 @@ plain_more g lane_of (Fetches n) p w l = fetched_more g n w (w.queue n) l
 plain_more g lane_of (Steps n x) p w l = absurd p
 
 pub acts_keep_names : ActsKeepNames
-acts_keep_names g lane_of ended s (Plain m) k c may none =
-    names_kept g lane_of ended s (act g lane_of (Plain m) s) (facts_of_life g lane_of ended s c) (λ l. plain_more g lane_of m may.0 s.lanes l)
+acts_keep_names stored g lane_of ended s (Plain m) k c may none =
+    names_kept stored g lane_of ended s (act g lane_of (Plain m) s) (facts_of_life stored g lane_of ended s c) (λ l. plain_more g lane_of m may.0 s.lanes l)
     (λ l. ap (λ (o : Outside). o.applied) (plain_outside g lane_of m may.0 s.lanes l)) k
-acts_keep_names g lane_of ended s (SendsFrom l chosen) k c may none =
-    names_kept g lane_of ended s (act g lane_of (SendsFrom l chosen) s) (facts_of_life g lane_of ended s c)
+acts_keep_names stored g lane_of ended s (SendsFrom l chosen) k c may none =
+    names_kept stored g lane_of ended s (act g lane_of (SendsFrom l chosen) s) (facts_of_life stored g lane_of ended s c)
     (λ m. ([], lane_by (λ c. c.taken) s.lanes l m (step g (Sends chosen) (s.lanes.lane l)) (m == l) refl refl ∙ sym (append-nil (s.lanes.lane m).taken)))
     (λ m. lane_by (λ c. c.outside.applied) s.lanes l m (step g (Sends chosen) (s.lanes.lane l)) (m == l) refl refl) k
-acts_keep_names g lane_of ended s (RunsAt request place o from) k c may none = absurd none
-acts_keep_names g lane_of ended s (AnswersAt request a from) k c may none =
-    names_kept g lane_of ended s (act g lane_of (AnswersAt request a from) s) (facts_of_life g lane_of ended s c)
+acts_keep_names stored g lane_of ended s (RunsAt request place o from) k c may none = absurd none
+acts_keep_names stored g lane_of ended s (AnswersAt request a from) k c may none =
+    names_kept stored g lane_of ended s (act g lane_of (AnswersAt request a from) s) (facts_of_life stored g lane_of ended s c)
     (λ m. ([], lane_by (λ c. c.taken) s.lanes from.lane m (step g (Answers from.number a) (s.lanes.lane from.lane)) (m == from.lane) refl refl ∙ sym (append-nil (s.lanes.lane m).taken)))
     (λ m. lane_by (λ c. c.outside.applied) s.lanes from.lane m (step g (Answers from.number a) (s.lanes.lane from.lane)) (m == from.lane) refl refl) k
 
 pub restarts_keep_names : RestartsKeepNames
-restarts_keep_names g new lane_of ended s k c =
-    let f = facts_of_life g lane_of ended s c in
+restarts_keep_names stored g new lane_of ended s k c =
+    let f = facts_of_life stored g lane_of ended s c in
     let is = with_running ended g s in
     ops_same_over is (with_running is new (after_restart s)) (lane_of k) ((outside_of lane_of s).applied k)
-    (λ x m. let o = all_found g lane_of ended s f k x m in dealt_push is (incarnation_of new (after_restart s)) (lane_of k) x.version o.0 o.1)
+    (λ x m. let o = all_found stored g lane_of ended s f k x m in dealt_push is (incarnation_of new (after_restart s)) (lane_of k) x.version o.0 o.1)

@@ -92,11 +92,11 @@ module _ (g : Config) (lane_of : Document → ℕ) (past : ℕ → Past) (w : La
 
 -- ---- a lane's step
 
--- of each lane
+-- what each lane's conflicts tell
 abbrev pub TellAll : Config → (ℕ → Past) → Lanes → Type 0
 TellAll g past w = (l : ℕ) → TellsOwn g (past l) (w.lane l).outside.runs
 
-module _ (g : Config) (lane_of : Document → ℕ) (past : ℕ → Past) (w : Lanes) (f : LanesFacts g lane_of past w) (tells : TellAll g past w) (l : ℕ) where
+module _ (g : Config) (lane_of : Document → ℕ) (past : ℕ → Past) (w : Lanes) (f : LanesFacts g lane_of past w) (l : ℕ) where
   lane_by : (c : Core) → CoreFacts g (past l) c → (m : ℕ) (b : Bool) → (m == l) ≡ b → CoreFacts g (past m) (if b then c else w.lane m)
   lane_by c k m true e = subst (λ n. CoreFacts g (past n) c) (sym (equal m l e)) k
   lane_by c k m false e = f.lane m
@@ -115,7 +115,7 @@ module _ (g : Config) (lane_of : Document → ℕ) (past : ℕ → Past) (w : La
 
   pub inner_keeps : (s : Step) → IsInner s → MayStep s (w.lane l) → LanesFacts g lane_of past (move g lane_of (Steps l s) w)
   inner_keeps s i may = record {
-    lane = λ m. lane_by (step g s (w.lane l)) (step_keeps g (past l) (w.lane l) (f.lane l) (tells l) s may) m (m == l) refl;
+    lane = λ m. lane_by (step g s (w.lane l)) (step_keeps g (past l) (w.lane l) (f.lane l) s may) m (m == l) refl;
     of_past = f.of_past;
     order = λ m p. same_taken (step g s (w.lane l)) (inner_taken s (w.lane l) i) m p (m == l) refl;
     numbers = f.numbers;
@@ -133,27 +133,27 @@ module _ (g : Config) (lane_of : Document → ℕ) (past : ℕ → Past) (w : La
   pub fetch_keeps : (q : List Op) → w.queue l ≡ q → LanesFacts g lane_of past (after_fetch g l w q)
   fetch_keeps [] e = f
   fetch_keeps (o ∷ os) e = record {
-    lane = λ m. lane_by (step g (Takes o) (w.lane l)) (step_keeps g (past l) (w.lane l) (f.lane l) (tells l) (Takes o) tt) m (m == l) refl;
+    lane = λ m. lane_by (step g (Takes o) (w.lane l)) (step_keeps g (past l) (w.lane l) (f.lane l) (Takes o) tt) m (m == l) refl;
     of_past = f.of_past;
     order = λ m p. fetch_order o os e m p (m == l) refl;
     numbers = f.numbers;
     epochs = f.epochs;
   }
 
-pub move_keeps : (g : Config) (lane_of : Document → ℕ) (past : ℕ → Past) (w : Lanes) (f : LanesFacts g lane_of past w) → TellAll g past w → (m : Move) → MayMove g m w → LanesFacts g lane_of past (move g lane_of m w)
-move_keeps g lane_of past w f tells (Puts o) may = put_keeps g lane_of past w f o may
-move_keeps g lane_of past w f tells (Closes p) may = record { lane = f.lane; of_past = f.of_past; order = f.order; numbers = f.numbers; epochs = f.epochs }
-move_keeps g lane_of past w f tells (Fetches l) may = fetch_keeps g lane_of past w f tells l (w.queue l) refl
-move_keeps g lane_of past w f tells (Steps l s) may = inner_keeps g lane_of past w f tells l s may.0 may.1
+pub move_keeps : (g : Config) (lane_of : Document → ℕ) (past : ℕ → Past) (w : Lanes) (f : LanesFacts g lane_of past w) (m : Move) → MayMove g m w → LanesFacts g lane_of past (move g lane_of m w)
+move_keeps g lane_of past w f (Puts o) may = put_keeps g lane_of past w f o may
+move_keeps g lane_of past w f (Closes p) may = record { lane = f.lane; of_past = f.of_past; order = f.order; numbers = f.numbers; epochs = f.epochs }
+move_keeps g lane_of past w f (Fetches l) may = fetch_keeps g lane_of past w f l (w.queue l) refl
+move_keeps g lane_of past w f (Steps l s) may = inner_keeps g lane_of past w f l s may.0 may.1
 
 -- if nothing was sent before
-module _ (g : Config) (lane_of : Document → ℕ) (past : ℕ → Past) (none : (l : ℕ) (x : Write) → (past l).writes x → ⊥) (foreign : (l u place : ℕ) → (past l).versions u → place < g.deals → u ≡ g.first + place → ⊥)
-    (w : Lanes) (s : IsStart g w) (from : (l : ℕ) (k : Document) (u : ℕ) → (w.lane l).outside.stored k ≡ Some u → (past l).versions u) where
+module _ (g : Config) (lane_of : Document → ℕ) (past : ℕ → Past) (none : (l : ℕ) (x : Write) → (past l).writes x → ⊥)
+    (w : Lanes) (s : IsStart w) (from : (l : ℕ) (k : Document) (u : ℕ) → (w.lane l).outside.stored k ≡ Some u → (past l).versions u) where
   pub start_facts : LanesFacts g lane_of past w
   start_facts = record {
-    lane = λ l. fresh_facts g (past l) (none l) (foreign l) (w.lane l) (s.lane l).new (from l);
+    lane = λ l. fresh_facts g (past l) (none l) (w.lane l) (s.lane l) (from l);
     of_past = λ l x m. absurd (none l x m);
-    order = λ l p. (λ i. filter (is_from p) ((s.lane l).new.taken i ++ s.queue l i)) ∙ sym (ap (filter (is_for lane_of l)) (s.accepted p));
+    order = λ l p. (λ i. filter (is_from p) ((s.lane l).taken i ++ s.queue l i)) ∙ sym (ap (filter (is_for lane_of l)) (s.accepted p));
     numbers = λ p i o e. absurd (none_at (w.accepted p) i o (s.accepted p) e);
     epochs = λ p i o e. absurd (none_at (w.accepted p) i o (s.accepted p) e);
   }

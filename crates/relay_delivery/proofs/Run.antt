@@ -18,7 +18,7 @@ use Rattle.relay_results.proofs.Same.{same_document-true, same_document-self}
 use Rattle.relay_results.proofs.Excluded.{with_error}
 use Rattle.relay_delivery.specs.Machine.{Config, Core, with_outside, step, Runs}
 use Rattle.relay_results.proofs.Lists.{at-Mem, Mem-left, Mem-last, Mem-push_cases}
-use Rattle.relay_delivery.proofs.Facts.{Past, IsKnown, IsSent, RunFact, IsRising, IndexFact, CoreFacts}
+use Rattle.relay_delivery.proofs.Facts.{Past, IsKnown, TellsOwn, IsSent, RunFact, IsRising, IndexFact, CoreFacts}
 use Rattle.relay_delivery.proofs.Dealt.{sent_by}
 
 -- an item that is run is in a request
@@ -78,13 +78,16 @@ append_nothing (x ∷ xs) = ap (λ ys. x ∷ ys) (append_nothing xs)
 known_more : (versions : ℕ → Type 0) (applied more : List Write) (u : ℕ) → IsKnown versions applied u → IsKnown versions (applied ++ more) u
 known_more versions applied more u h = ⊎_elim (λ old. inl old) (λ z. inr (z.0, Mem-left z.0 applied more z.1, z.2)) h
 
+-- what tells of all runs tells of the earlier ones
+tells_before : (g : Config) (past : Past) (runs : List Ran) (r : Ran) → TellsOwn g past (runs ++ r ∷ []) → TellsOwn g past runs
+tells_before g past runs r tells = ⊎_elim (λ low. inl low) (λ states. inr (states.0, λ s m. states.1 s (Mem-left s runs (r ∷ []) m))) tells
+
 -- ---- a run that changes nothing in the index
 
 module _ (g : Config) (past : Past) (c : Core) (f : CoreFacts g past c) (r : Ran) where
   with_run_keeps : RunFact past.versions c.outside.requests c.outside.stored c.outside.applied r → CoreFacts g past (with_outside c (with_run c.outside r))
   with_run_keeps new = record {
     past_below = f.past_below;
-    foreign = f.foreign;
     held = f.held;
     alone = f.alone;
     in_rise = f.in_rise;
@@ -105,7 +108,7 @@ module _ (g : Config) (past : Past) (c : Core) (f : CoreFacts g past c) (r : Ran
         (f.reports p m);
     apart = f.apart;
     totals = f.totals;
-    nothing_lost = f.nothing_lost;
+    nothing_lost = λ tells. f.nothing_lost (tells_before g past c.outside.runs r tells);
   }
 
   -- ---- a run that applies the write
@@ -155,7 +158,6 @@ module _ (g : Config) (past : Past) (c : Core) (f : CoreFacts g past c) (r : Ran
     unfolding new
     apply_keeps fact = record {
       past_below = f.past_below;
-      foreign = f.foreign;
       held = f.held;
       alone = f.alone;
       in_rise = f.in_rise;
@@ -176,12 +178,12 @@ module _ (g : Config) (past : Past) (c : Core) (f : CoreFacts g past c) (r : Ran
           (f.reports p m);
       apart = f.apart;
       totals = f.totals;
-      nothing_lost = λ place o s. ⊎_elim
+      nothing_lost = λ tells place o s. ⊎_elim
           (λ h. inl h)
           (λ y. ⊎_elim
           (λ a. inr (inl (record { write = a.write; is_in = Mem-left a.write (c.outside.applied (document_of o.key)) (if same_document (document_of o.key) (document_of w.key) then w ∷ [] else []) a.is_in; version = a.version })))
           (λ p. inr (inr p)) y)
-          (f.nothing_lost place o s);
+          (f.nothing_lost (tells_before g past c.outside.runs r tells) place o s);
     }
 
     applied_keeps : (q : Request) → slice_get c.outside.requests r.request ≡ Some q → slice_get q.writes r.place ≡ Some w → is_applied w r.outcome ≡ true → CoreFacts g past (with_outside c (with_run (with_applied c.outside w) r))

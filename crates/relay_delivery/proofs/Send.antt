@@ -268,7 +268,6 @@ module _ (g : Config) (past : Past) (c : Core) (f : CoreFacts g past c) (chosen 
   unfolding new
   send_keeps = record {
     past_below = f.past_below;
-    foreign = f.foreign;
     held = λ h m.
         let k = Mem-map (after_launch (length requests) chosen) h c.held m in
         subst (λ j. HeldFact g c.taken (requests ++ new ∷ []) j) (sym k.2) (held-one k.0 k.1 (place_of k.0.version chosen) refl);
@@ -306,8 +305,8 @@ module _ (g : Config) (past : Past) (c : Core) (f : CoreFacts g past c) (chosen 
         (f.reports p m);
     apart = λ o. let e = count-sent o (length requests) chosen c.held in let a = f.apart o in omega arith;
     totals = let e = length-map (after_launch (length requests) chosen) c.held in let t = f.totals in omega (arith, e, t);
-    nothing_lost = λ place o s. ⊎_elim
+    nothing_lost = λ tells place o s. ⊎_elim
         (λ h. inl (record { held_op = after_launch (length requests) chosen h.held_op; is_in = map-Mem (after_launch (length requests) chosen) h.held_op c.held h.is_in; version = launched_version (length requests) h.held_op (place_of h.held_op.version chosen) ∙ h.version }))
         (λ y. inr y)
-        (f.nothing_lost place o s);
+        (f.nothing_lost tells place o s);
   }

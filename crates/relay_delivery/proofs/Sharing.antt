@@ -21,7 +21,7 @@ use Rattle.relay_results.proofs.Lists.{true_or_false, equal, equal_test, equal_o
 use Rattle.relay_delivery.proofs.Facts.{Past, IsOfOne, IsSent}
 use Rattle.relay_delivery.proofs.Dealt.{with_answer, carried_at, of_held, sent_by, sent_at}
 use Rattle.relay_delivery.proofs.Run.{found_at}
-use Rattle.relay_delivery.proofs.Queues.{LanesFacts, TellAll, start_facts, move_keeps, was_accepted}
+use Rattle.relay_delivery.proofs.Queues.{LanesFacts, start_facts, move_keeps, was_accepted}
 
 abbrev pub requests_at : Together → ℕ → List Request
 requests_at s l = (s.lanes.lane l).outside.requests
@@ -356,26 +356,26 @@ module _ (g : Config) (lane_of : Document → ℕ) (past : ℕ → Past) (s : To
 
 -- ---- any act
 
-pub act_keeps : (g : Config) (lane_of : Document → ℕ) (past : ℕ → Past) (s : Together) (f : TogetherFacts g lane_of past s) → TellAll g past s.lanes → (x : Act) → MayAct g x s → TogetherFacts g lane_of past (act g lane_of x s)
+pub act_keeps : (g : Config) (lane_of : Document → ℕ) (past : ℕ → Past) (s : Together) (f : TogetherFacts g lane_of past s) (x : Act) → MayAct g x s → TogetherFacts g lane_of past (act g lane_of x s)
 unfolding later after_run after_answer
-act_keeps g lane_of past s f tells (Plain m) may =
+act_keeps g lane_of past s f (Plain m) may =
     let w = move g lane_of m s.lanes in
-    plain_keeps g lane_of past s f w (move_keeps g lane_of past s.lanes f.lanes tells m may.1) (λ l. ap (λ (o : Outside). o.requests) (plain_outside g lane_of m may.0 s.lanes l)) (λ l. ap (λ (o : Outside). o.runs) (plain_outside g lane_of m may.0 s.lanes l))
-act_keeps g lane_of past s f tells (SendsFrom l chosen) may = send_keeps_all g lane_of past s f l chosen may (move_keeps g lane_of past s.lanes f.lanes tells (Steps l (Sends chosen)) (tt, may))
-act_keeps g lane_of past s f tells (RunsAt i place outcome from) may = run_keeps_all g lane_of past s f i place outcome from may.0 may.1 (move_keeps g lane_of past s.lanes f.lanes tells (Steps from.lane (Runs (run_at from.number place outcome))) (tt, may.1))
-act_keeps g lane_of past s f tells (AnswersAt i a from) may = answer_keeps_all g lane_of past s f i a from may.0 (move_keeps g lane_of past s.lanes f.lanes tells (Steps from.lane (Answers from.number a)) (tt, may.1))
+    plain_keeps g lane_of past s f w (move_keeps g lane_of past s.lanes f.lanes m may.1) (λ l. ap (λ (o : Outside). o.requests) (plain_outside g lane_of m may.0 s.lanes l)) (λ l. ap (λ (o : Outside). o.runs) (plain_outside g lane_of m may.0 s.lanes l))
+act_keeps g lane_of past s f (SendsFrom l chosen) may = send_keeps_all g lane_of past s f l chosen may (move_keeps g lane_of past s.lanes f.lanes (Steps l (Sends chosen)) (tt, may))
+act_keeps g lane_of past s f (RunsAt i place outcome from) may = run_keeps_all g lane_of past s f i place outcome from may.0 may.1 (move_keeps g lane_of past s.lanes f.lanes (Steps from.lane (Runs (run_at from.number place outcome))) (tt, may.1))
+act_keeps g lane_of past s f (AnswersAt i a from) may = answer_keeps_all g lane_of past s f i a from may.0 (move_keeps g lane_of past s.lanes f.lanes (Steps from.lane (Answers from.number a)) (tt, may.1))
 
-pub start_shared : (g : Config) (lane_of : Document → ℕ) (past : ℕ → Past) → ((l : ℕ) (x : Write) → (past l).writes x → ⊥) → ((l u place : ℕ) → (past l).versions u → place < g.deals → u ≡ g.first + place → ⊥) → (s : Together)
-    → IsFreshTogether g s → ((l : ℕ) (k : Document) (u : ℕ) → (s.lanes.lane l).outside.stored k ≡ Some u → (past l).versions u) → TogetherFacts g lane_of past s
-start_shared g lane_of past none foreign s h from = record {
-  lanes = start_facts g lane_of past none foreign s.lanes h.lanes from;
+pub start_shared : (g : Config) (lane_of : Document → ℕ) (past : ℕ → Past) → ((l : ℕ) (x : Write) → (past l).writes x → ⊥) → (stored : Document → Option ℕ) (s : Together)
+    → IsFreshTogether stored s → ((l : ℕ) (k : Document) (u : ℕ) → stored k ≡ Some u → (past l).versions u) → TogetherFacts g lane_of past s
+start_shared g lane_of past none stored s h from = record {
+  lanes = start_facts g lane_of past none s.lanes h.lanes (λ l k u e. from l k u (sym (h.found l k) ∙ e));
   same = λ i o e. absurd (none_at s.origins i o h.origins e);
-  each = λ l n q e. absurd (none_at (requests_at s l) n q ((h.lanes.lane l).new.opening.requests) e);
+  each = λ l n q e. absurd (none_at (requests_at s l) n q ((h.lanes.lane l).opening.requests) e);
   once = λ i j o a b. absurd (none_at s.origins i o h.origins a);
   as_long = ap length h.origins ∙ sym (ap length h.sent);
-  ran = λ l r m. absurd (subst (λ rs. Mem r rs) ((h.lanes.lane l).new.opening.runs) m);
+  ran = λ l r m. absurd (subst (λ rs. Mem r rs) ((h.lanes.lane l).opening.runs) m);
   back = λ r m. absurd (subst (λ rs. Mem r rs) h.runs m);
-  counted = λ x p of. ap (count p) h.sent ∙ sym (ap (count p) ((h.lanes.lane (lane_of (document_of x.key))).new.opening.requests));
+  counted = λ x p of. ap (count p) h.sent ∙ sym (ap (count p) ((h.lanes.lane (lane_of (document_of x.key))).opening.requests));
 }
 
 -- ---- a cause that is true of a lane's requests is true of all

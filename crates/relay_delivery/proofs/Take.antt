@@ -147,7 +147,6 @@ module _ (g : Config) (past : Past) (c : Core) (f : CoreFacts g past c) (o : Op)
   pub take_keeps : CoreFacts g past (take g o c)
   take_keeps = record {
     past_below = f.past_below;
-    foreign = f.foreign;
     held = λ h m. ⊎_elim
         (λ y. held-more h (f.held h y))
         (λ r. subst (λ k. HeldFact g (c.taken ++ o ∷ []) c.outside.requests k) (sym r.1) (new_held r.0))
@@ -176,8 +175,8 @@ module _ (g : Config) (past : Past) (c : Core) (f : CoreFacts g past c) (o : Op)
         let e = one_length (nat_lt (length c.taken) g.deals) g (length c.taken) o in
         let k : length (o ∷ []) ≡ 1 = refl in
         omega (arith, t, h, r, n, e, k);
-    nothing_lost = λ place o' s. ⊎_elim
-        (λ y. kept_somewhere o' place (f.nothing_lost place o' y))
+    nothing_lost = λ tells place o' s. ⊎_elim
+        (λ y. kept_somewhere o' place (f.nothing_lost tells place o' y))
         (λ r. subst (λ p. IsSomewhere g (take g o c) o' p) (sym r.0) (subst (λ x. IsSomewhere g (take g o c) x (length c.taken)) (sym r.1) new_somewhere))
         (at-cases c.taken o place o' s);
   }

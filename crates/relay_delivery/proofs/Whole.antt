@@ -11,11 +11,11 @@ use Rattle.relay_delivery.specs.Attribution.{IsAttribution, IsInProducerOrder, i
 use Rattle.relay_delivery.specs.Machine.{Config, Core, Report, Takes, Sends, Runs, Answers, Step, step, steps_of, MayStep, AllMayStep, write_of, IsFresh, CameAboutFrom}
 use Rattle.relay_delivery.specs.Delivery.{taken_of, applied_ops, IsTrueReport, IsSound, IsComplete, SoundAlways, CompleteAtTheEnd, TotalAlways, WritesAreDealt, ContinuesAlways, FreshCameAbout, StepCameAbout}
 use Rattle.relay_results.proofs.Lists.{equal_test, at-Mem, at-within, Mem-at, map-Mem, filter-Mem, some_same, sub-filter, sub-map, Mem-sub, AllDistinct-sub}
-use Rattle.relay_delivery.proofs.Facts.{Past, IsDealt, IsOfOne, SpentFact, CauseFact, CoreFacts}
+use Rattle.relay_delivery.proofs.Facts.{Past, TellsOwn, IsDealt, IsOfOne, SpentFact, CauseFact, CoreFacts}
 use Rattle.relay_delivery.proofs.Ordered.{ops-in_order, ops-same, op-of, of-op}
 use Rattle.relay_delivery.proofs.Versions.{version_in, version_of, is_assignment, none_over, version_there}
 use Rattle.relay_delivery.proofs.Names.{taken_once, reported_once}
-use Rattle.relay_delivery.proofs.Keeps.{none_past, facts_of, own_sent}
+use Rattle.relay_delivery.proofs.Keeps.{none_past, tells_none, facts_of, own_sent}
 
 -- an operation that was taken was applied
 pub record IsAppliedAs (g : Config) (c : Core) (o : Op) : Type 0 where
@@ -59,8 +59,8 @@ module _ (g : Config) (past : Past) (c : Core) (f : CoreFacts g past c) (distinc
   reports_once = reported_once c.reports (λ n. let a = f.apart n in let b = taken_once c.taken distinct n in omega (arith, a, b))
 
   -- if nothing is held, each operation that was taken was applied or is reported
-  pub accounted : c.held ≡ [] → (o : Op) → Mem o c.taken → IsAppliedAs g c o ⊎ Mem (name_of o) (map (λ (r : Report). r.name) c.reports)
-  accounted none o m =
+  pub accounted : TellsOwn g past c.outside.runs → c.held ≡ [] → (o : Op) → Mem o c.taken → IsAppliedAs g c o ⊎ Mem (name_of o) (map (λ (r : Report). r.name) c.reports)
+  accounted tells none o m =
       let at = Mem-at o c.taken m in
       ⊎_elim
       (λ h. absurd (subst (λ hs. Mem h.held_op hs) none h.is_in))
@@ -72,7 +72,7 @@ module _ (g : Config) (past : Past) (c : Core) (f : CoreFacts g past c) (distinc
       inl (record { write = y.write; is_in = y.is_in; one = a; op = same }))
       (λ p. inr (subst (λ n. Mem n (map (λ (r : Report). r.name) c.reports)) p.name (map-Mem (λ (r : Report). r.name) p.report c.reports p.is_in)))
       z)
-      (f.nothing_lost at.0 o at.1)
+      (f.nothing_lost tells at.0 o at.1)
 
 -- ---- if nothing is of the past
 
@@ -107,17 +107,17 @@ module _ (g : Config) (past : Past) (nothing : (w : Write) → past.writes w →
     once = reports_once g past c f distinct;
   }
 
-  pub complete : c.held ≡ [] → IsComplete c.taken c.reports (applied_ops g c.taken c.outside)
-  complete none o m = ⊎_elim
+  pub complete : TellsOwn g past c.outside.runs → c.held ≡ [] → IsComplete c.taken c.reports (applied_ops g c.taken c.outside)
+  complete tells none o m = ⊎_elim
       (λ y. inl (subst (λ p. Mem p (applied_ops g c.taken c.outside (document_of o.key))) y.op (of-op g c.taken (c.outside.applied (document_of o.key)) y.write y.is_in y.one)))
       (λ p. inr p)
-      (accounted g past c f distinct none o m)
+      (accounted g past c f distinct tells none o m)
 
 pub sound_always : SoundAlways
 sound_always g c r distinct = sound g (none_past g) (λ w m. m) c (facts_of g c r) distinct
 
 pub complete_at_the_end : CompleteAtTheEnd
-complete_at_the_end g c r distinct none = complete g (none_past g) (λ w m. m) c (facts_of g c r) distinct none
+complete_at_the_end g c r distinct none = complete g (none_past g) (λ w m. m) c (facts_of g c r) distinct (tells_none g c) none
 
 pub total_always : TotalAlways
 total_always g c r = (facts_of g c r).totals

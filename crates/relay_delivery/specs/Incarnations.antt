@@ -12,6 +12,7 @@ use Rattle.relay_delivery.specs.Machine.{Config, Report}
 use Rattle.relay_delivery.specs.Delivery.{terms_of, names_of, assigned_at}
 use Rattle.relay_delivery.specs.Lanes.{IsFinished}
 use Rattle.relay_delivery.specs.Together.{Origin, Together, Act, Plain, SendsFrom, RunsAt, AnswersAt, run_at, act, MayAct, IsFreshTogether, outside_of}
+use Rattle.relay_delivery.specs.Stating.{StatesVersions, StoresOthers}
 use Rattle.relay_delivery.specs.Restarts.{Incarnation, with_running, after_restart, IsOfNow, IsAbove, CameAboutTogether}
 
 -- ---- what was accepted
@@ -83,31 +84,52 @@ IsCompleteTogether lane_of s ops =
     (p : ℕ) (o : Op) → Mem o (s.lanes.accepted p) →
     Mem o (ops (document_of o.key)) ⊎ Mem (name_of o) (names_of (reports_of s (lane_of (document_of o.key))))
 
+-- whatever the index had stored
 abbrev pub SoundTogether : Type 0
 SoundTogether =
-    (g : Config) (lane_of : Document → ℕ) (ended : List Incarnation) (s : Together) → CameAboutTogether g lane_of ended s →
-    IsSoundTogether g lane_of ended s (attributed_together g lane_of ended s)
+    (stored : Document → Option ℕ) (g : Config) (lane_of : Document → ℕ) (ended : List Incarnation) (s : Together) →
+    CameAboutTogether stored g lane_of ended s → IsSoundTogether g lane_of ended s (attributed_together g lane_of ended s)
+
+-- the config of the first incarnation
+abbrev pub first_of : List Incarnation → Config → Config
+first_of [] g = g
+first_of (i ∷ is) g = i.config
+
+-- each version that was stored at the start is below the first one that a lane assigned
+abbrev pub StoredAreBelow : (Document → Option ℕ) → List Incarnation → Config → Type 0
+StoredAreBelow stored ended g = (k : Document) (version : ℕ) → stored k ≡ Some version → version < (first_of ended g).first
 
 abbrev pub CompleteTogether : Type 0
 CompleteTogether =
-    (g : Config) (lane_of : Document → ℕ) (ended : List Incarnation) (s : Together) → CameAboutTogether g lane_of ended s →
+    (stored : Document → Option ℕ) (g : Config) (lane_of : Document → ℕ) (ended : List Incarnation) (s : Together) →
+    CameAboutTogether stored g lane_of ended s → StoredAreBelow stored ended g → IsFinished s.lanes →
+    IsCompleteTogether lane_of s (attributed_together g lane_of ended s)
+
+-- or no such version is one that a lane of the last incarnation assigns, and each conflict states the stored version
+abbrev pub CompleteTogetherIfStated : Type 0
+CompleteTogetherIfStated =
+    (stored : Document → Option ℕ) (g : Config) (lane_of : Document → ℕ) (ended : List Incarnation) (s : Together) →
+    CameAboutTogether stored g lane_of ended s → StoresOthers g stored → StatesVersions (outside_of lane_of s) →
     IsFinished s.lanes → IsCompleteTogether lane_of s (attributed_together g lane_of ended s)
 
 -- ---- what comes about
 
 abbrev pub FreshTogether : Type 0
-FreshTogether = (g : Config) (lane_of : Document → ℕ) (s : Together) → IsFreshTogether g s → CameAboutTogether g lane_of [] s
+FreshTogether =
+    (stored : Document → Option ℕ) (g : Config) (lane_of : Document → ℕ) (s : Together) → IsFreshTogether stored s →
+    CameAboutTogether stored g lane_of [] s
 
 abbrev pub ActTogether : Type 0
 ActTogether =
-    (g : Config) (lane_of : Document → ℕ) (ended : List Incarnation) (s : Together) (a : Act) →
-    CameAboutTogether g lane_of ended s → MayAct g a s → IsOfNow ended a →
-    CameAboutTogether g lane_of ended (act g lane_of a s)
+    (stored : Document → Option ℕ) (g : Config) (lane_of : Document → ℕ) (ended : List Incarnation) (s : Together) (a : Act) →
+    CameAboutTogether stored g lane_of ended s → MayAct g a s → IsOfNow ended a →
+    CameAboutTogether stored g lane_of ended (act g lane_of a s)
 
 abbrev pub RestartTogether : Type 0
 RestartTogether =
-    (g new : Config) (lane_of : Document → ℕ) (ended : List Incarnation) (s : Together) → CameAboutTogether g lane_of ended s →
-    IsAbove g new → CameAboutTogether new lane_of (with_running ended g s) (after_restart s)
+    (stored : Document → Option ℕ) (g new : Config) (lane_of : Document → ℕ) (ended : List Incarnation) (s : Together) →
+    CameAboutTogether stored g lane_of ended s → IsAbove g new →
+    CameAboutTogether stored new lane_of (with_running ended g s) (after_restart s)
 
 -- each request has an origin, and what may happen outside all lanes may happen in the lane of its origin
 pub record HappensInLanes (g : Config) (lane_of : Document → ℕ) (s : Together) : Type 0 where
@@ -119,33 +141,28 @@ pub record HappensInLanes (g : Config) (lane_of : Document → ℕ) (s : Togethe
 
 abbrev pub TogetherMay : Type 0
 TogetherMay =
-    (g : Config) (lane_of : Document → ℕ) (ended : List Incarnation) (s : Together) → CameAboutTogether g lane_of ended s →
-    HappensInLanes g lane_of s
+    (stored : Document → Option ℕ) (g : Config) (lane_of : Document → ℕ) (ended : List Incarnation) (s : Together) →
+    CameAboutTogether stored g lane_of ended s → HappensInLanes g lane_of s
 
 -- a run of one lane's item is one step of the common outside, and changes nothing for any other document
 abbrev pub TogetherRuns : Type 0
 TogetherRuns =
-    (g : Config) (lane_of : Document → ℕ) (ended : List Incarnation) (s : Together) (i place : ℕ) (o : RunOutcome)
-    (from : Origin) → CameAboutTogether g lane_of ended s → MayAct g (RunsAt i place o from) s →
+    (stored : Document → Option ℕ) (g : Config) (lane_of : Document → ℕ) (ended : List Incarnation) (s : Together)
+    (i place : ℕ) (o : RunOutcome) (from : Origin) →
+    CameAboutTogether stored g lane_of ended s → MayAct g (RunsAt i place o from) s →
     (w : Write) × RunsItem (outside_of lane_of s) (outside_of lane_of (act g lane_of (RunsAt i place o from) s)) (run_at i place o) w
 
--- the config of the first incarnation
-abbrev pub first_of : List Incarnation → Config → Config
-first_of [] g = g
-first_of (i ∷ is) g = i.config
-
--- the common outside came about, by events that may happen, from an opening in which every stored version is below
--- the first one assigned
-pub record ContinuesOpening (g : Config) (s : Outside) : Type 0 where
+-- the common outside came about, by events that may happen, from an opening with these versions stored
+pub record ContinuesOpening (stored : Document → Option ℕ) (s : Outside) : Type 0 where
   pub start : Outside
   pub opening : IsOpening start
-  pub below : (k : Document) (u : ℕ) → start.stored k ≡ Some u → u < g.first
+  pub found : (k : Document) → start.stored k ≡ stored k
   pub continues : Continues start s
 
 abbrev pub TogetherContinues : Type 0
 TogetherContinues =
-    (g : Config) (lane_of : Document → ℕ) (ended : List Incarnation) (s : Together) → CameAboutTogether g lane_of ended s →
-    ContinuesOpening (first_of ended g) (outside_of lane_of s)
+    (stored : Document → Option ℕ) (g : Config) (lane_of : Document → ℕ) (ended : List Incarnation) (s : Together) →
+    CameAboutTogether stored g lane_of ended s → ContinuesOpening stored (outside_of lane_of s)
 
 -- ---- whose names are kept
 
@@ -159,12 +176,12 @@ RunsNone (AnswersAt request a from) = Unit {0}
 
 abbrev pub ActsKeepNames : Type 0
 ActsKeepNames =
-    (g : Config) (lane_of : Document → ℕ) (ended : List Incarnation) (s : Together) (a : Act) (k : Document) →
-    CameAboutTogether g lane_of ended s → MayAct g a s → RunsNone a →
+    (stored : Document → Option ℕ) (g : Config) (lane_of : Document → ℕ) (ended : List Incarnation) (s : Together) (a : Act)
+    (k : Document) → CameAboutTogether stored g lane_of ended s → MayAct g a s → RunsNone a →
     attributed_together g lane_of ended (act g lane_of a s) k ≡ attributed_together g lane_of ended s k
 
 abbrev pub RestartsKeepNames : Type 0
 RestartsKeepNames =
-    (g new : Config) (lane_of : Document → ℕ) (ended : List Incarnation) (s : Together) (k : Document) →
-    CameAboutTogether g lane_of ended s →
+    (stored : Document → Option ℕ) (g new : Config) (lane_of : Document → ℕ) (ended : List Incarnation) (s : Together)
+    (k : Document) → CameAboutTogether stored g lane_of ended s →
     attributed_together new lane_of (with_running ended g s) (after_restart s) k ≡ attributed_together g lane_of ended s k

@@ -2,7 +2,7 @@
 use Rattle.std.specs.Prelude.{◌≡◌, ℕ, ◌+◌, List, [], ◌∷◌, ◌++◌, Bool, true, false, ◌==◌, if◌then◌else◌, length}
 use Rattle.relay_action.specs.declared.operation.Op.{Op}
 use Rattle.relay_results.specs.Documents.{Document, document_of}
-use Rattle.relay_delivery.specs.Machine.{Config, Core, Step, Takes, Sends, Runs, Answers, step, MayStep, IsFresh}
+use Rattle.relay_delivery.specs.Machine.{Config, Core, Step, Takes, Sends, Runs, Answers, step, MayStep, IsNew}
 
 -- For each producer what was accepted from it and whether it has closed; for each lane the operations in its queue,
 -- and its core. The outside of a lane has the requests of that lane alone, and the index as far as its own documents
@@ -76,11 +76,11 @@ abbrev pub AllMayMove : Config → (Document → ℕ) → List Move → Lanes �
 AllMayMove g lane_of [] w = Unit {0}
 AllMayMove g lane_of (m ∷ ms) w = MayMove g m w × AllMayMove g lane_of ms (move g lane_of m w)
 
--- nothing was accepted or queued, and each lane is fresh
-pub record IsStart (g : Config) (w : Lanes) : Type 0 where
+-- nothing was accepted or queued, and no lane took or sent anything
+pub record IsStart (w : Lanes) : Type 0 where
   pub accepted : (p : ℕ) → w.accepted p ≡ []
   pub queue : (l : ℕ) → w.queue l ≡ []
-  pub lane : (l : ℕ) → IsFresh g (w.lane l)
+  pub lane : (l : ℕ) → IsNew (w.lane l)
 
 -- nothing is queued, and no lane holds an operation
 pub record IsFinished (w : Lanes) : Type 0 where

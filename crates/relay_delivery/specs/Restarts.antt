@@ -1,6 +1,6 @@
 -- Restarts: a sequence of incarnations over one index, each in an epoch above all earlier ones, while requests that
 -- earlier ones sent may still be run.
-use Rattle.std.specs.Prelude.{◌≡◌, ℕ, ◌+◌, ◌^◌, ◌<◌, ◌≤◌, List, [], ◌∷◌, ◌++◌, false, length}
+use Rattle.std.specs.Prelude.{◌≡◌, ℕ, ◌+◌, ◌^◌, ◌<◌, ◌≤◌, List, [], ◌∷◌, ◌++◌, Option, false, length}
 use Rattle.relay_action.specs.declared.operation.Op.{Op}
 use Rattle.relay_results.specs.Words.{Mem}
 use Rattle.relay_results.specs.Documents.{Document}
@@ -87,11 +87,11 @@ AllMayBe lane_of [] l = Unit {0}
 AllMayBe lane_of (h ∷ hs) l = MayBe h l × AllMayBe lane_of hs (happen lane_of h l)
 
 -- These incarnations have ended, and the state of the current one, with this config, came about by acts and restarts
--- that may happen, starting from fresh lanes.
-pub record CameAboutTogether (g : Config) (lane_of : Document → ℕ) (ended : List Incarnation) (s : Together) : Type 0 where
+-- that may happen, starting from fresh lanes over an index with these versions stored.
+pub record CameAboutTogether (stored : Document → Option ℕ) (g : Config) (lane_of : Document → ℕ) (ended : List Incarnation) (s : Together) : Type 0 where
   pub first : Config
   pub start : Together
-  pub fresh : IsFreshTogether first start
+  pub fresh : IsFreshTogether stored start
   pub happenings : List Happening
   pub may : AllMayBe lane_of happenings (born first start)
   pub reached : after_happenings lane_of happenings (born first start) ≡ record { ended = ended; config = g; together = s }

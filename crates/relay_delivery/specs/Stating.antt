@@ -1,7 +1,7 @@
 -- An index that states, in each conflict, the version that it has stored. A lane over it counts nothing that the index did
 -- not apply, even if it runs in an old epoch or after another writer: of the versions that are stored at the start, none
 -- need be below those that the lane assigns, as long as none is one of them.
-use Rattle.std.specs.Prelude.{◌≡◌, ◌≢◌, ◌⊎◌, ℕ, ◌<◌, List, [], Some}
+use Rattle.std.specs.Prelude.{◌≡◌, ◌≢◌, ◌⊎◌, ℕ, ◌<◌, List, [], Option, Some}
 use Rattle.relay_action.specs.declared.operation.Op.{Op}
 use Rattle.relay_results.specs.Words.{Mem}
 use Rattle.relay_results.specs.Documents.{Document, document_of}
@@ -17,13 +17,13 @@ abbrev pub StatesVersions : Outside → Type 0
 StatesVersions s = (r : Ran) → Mem r s.runs → r.outcome.status ≡ 409 → (version : ℕ) × (stored_in r.outcome.error ≡ Some version)
 
 -- no version that is stored is one that the lane assigns
-abbrev pub StoresOthers : Config → Outside → Type 0
-StoresOthers g s = (k : Document) (version place : ℕ) → s.stored k ≡ Some version → place < g.deals → version ≢ version_at g place
+abbrev pub StoresOthers : Config → (Document → Option ℕ) → Type 0
+StoresOthers g stored = (k : Document) (version place : ℕ) → stored k ≡ Some version → place < g.deals → version ≢ version_at g place
 
 -- nothing was taken and nothing sent, and the stored versions are others
 pub record IsNewBeside (g : Config) (c : Core) : Type 0 where
   pub new : IsNew c
-  pub others : StoresOthers g c.outside
+  pub others : StoresOthers g c.outside.stored
 
 -- the core came about by steps that may happen, starting from there
 abbrev pub CameAboutBeside : Config → Core → Type 0
@@ -47,7 +47,7 @@ CompleteIfStated =
 -- nothing was sent at the start, and the stored versions are others
 pub record BeginsBeside (g : Config) (o : Outside) : Type 0 where
   pub opening : IsOpening o
-  pub others : StoresOthers g o
+  pub others : StoresOthers g o.stored
 
 abbrev pub ExplainedIsSoundIfStated : Type 0
 ExplainedIsSoundIfStated =

@@ -1,5 +1,5 @@
 -- Several lanes over one index: one list of requests and one log of runs, in the order in which they came about.
-use Rattle.std.specs.Prelude.{◌≡◌, ℕ, List, [], ◌∷◌, ◌++◌, Some, slice_get, map, length}
+use Rattle.std.specs.Prelude.{◌≡◌, ℕ, List, [], ◌∷◌, ◌++◌, Option, Some, slice_get, map, length}
 use Rattle.relay_results.specs.Words.{update}
 use Rattle.relay_results.specs.Documents.{Document}
 use Rattle.relay_results.specs.Outside.{Answer, Unanswered, Request, writes_of, RunOutcome, Ran, Outside}
@@ -75,11 +75,13 @@ abbrev pub AllMayAct : Config → (Document → ℕ) → List Act → Together �
 AllMayAct g lane_of [] s = Unit {0}
 AllMayAct g lane_of (a ∷ more) s = MayAct g a s × AllMayAct g lane_of more (act g lane_of a s)
 
-pub record IsFreshTogether (g : Config) (s : Together) : Type 0 where
-  pub lanes : IsStart g s.lanes
+-- nothing has happened yet, over an index with these versions stored
+pub record IsFreshTogether (stored : Document → Option ℕ) (s : Together) : Type 0 where
+  pub lanes : IsStart s.lanes
   pub sent : s.sent ≡ []
   pub origins : s.origins ≡ []
   pub runs : s.runs ≡ []
+  pub found : (l : ℕ) (k : Document) → (s.lanes.lane l).outside.stored k ≡ stored k
 
 -- ---- the one outside
 

@@ -18,7 +18,8 @@ ghost use Rattle.relay_delivery.specs.Lanes.{NothingAfterClose};
 ghost use Rattle.relay_delivery.specs.Renumbering.{TakesOn, CandidatesOn, SendsOn, WritesOn};
 ghost use Rattle.relay_delivery.specs.Renumbering.{SettlesOn, FliesOn, AnswersOn};
 ghost use Rattle.relay_delivery.specs.Restarts.{EpochsAreAbove};
-ghost use Rattle.relay_delivery.specs.Incarnations.{SoundTogether, CompleteTogether, FreshTogether};
+ghost use Rattle.relay_delivery.specs.Incarnations.{SoundTogether, CompleteTogether};
+ghost use Rattle.relay_delivery.specs.Incarnations.{CompleteTogetherIfStated, FreshTogether};
 ghost use Rattle.relay_delivery.specs.Incarnations.{ActTogether, RestartTogether, TogetherMay};
 ghost use Rattle.relay_delivery.specs.Incarnations.{TogetherRuns, TogetherContinues, ActsKeepNames};
 ghost use Rattle.relay_delivery.specs.Incarnations.{RestartsKeepNames};
@@ -125,11 +126,15 @@ pub fn requests_take_tries()
 /// steps, and after any number of restarts with requests of earlier incarnations still arriving,
 /// the writes that the index applied are those of distinct accepted operations, in each incarnation
 /// each producer's in order, and those of an earlier incarnation before those of every later one.
-/// In the last incarnation each report has a true cause; and when nothing is queued or held, each
-/// operation accepted in it was applied or is reported.
+/// In the last incarnation each report has a true cause. All this holds whatever the index had stored
+/// at the start. When nothing is queued or held, each operation accepted in the last incarnation was
+/// applied or is reported, if each version that was stored at the start is below the first one that a
+/// lane assigned; or if none is one that a lane of this incarnation assigns, and each conflict states
+/// the stored version.
 pub fn lanes_together_deliver()
     ensures sound { SoundTogether }
     ensures complete { CompleteTogether }
+    ensures stated { CompleteTogetherIfStated }
 {}
 
 /// Fresh lanes are reachable, and so is every state after an act or a restart. What may happen
