@@ -14,7 +14,7 @@ use Rattle.relay_threads.specs.declared.lane_end.LaneEndKind.{LaneEndKind}
 use Rattle.relay_threads.specs.declared.lane_end.LaneEndKind.TheVariants.{Finished, Memory, Gone}
 use Rattle.relay_threads.specs.Course.{KnowsOpen, OneIsOpen, HasHeard, Course, EndsAs}
 use Rattle.relay_threads.specs.Told.{Told, HasTold, EndsTold}
-use Rattle.relay_threads.proofs.ToldOnce.{told_of_all, told_is_true}
+use Rattle.relay_threads.proofs.ToldOnce.{told_of_all, told_truly, explained_truly, stated_truly}
 use Rattle.relay_threads.specs.Steps.{KeepsOn}
 use Rattle.relay_threads.proofs.Hearing.{heard_all, all_done, done_more, one_open}
 use Rattle.relay_threads.proofs.Keeping.{course_on, works, forgets}
@@ -45,13 +45,13 @@ left_open producers taken kind s heard gone h n knows left =
 
 module _ {S : Type 0} (d : Bool) (fits : S → Outside → Type 0) where
   -- it stopped early
-  pub ends_early : (start w : S) (c : RelayConfig) (taken : List Mail) (kind : LaneEndKind) (s : State) → kind ≢ Finished → (kind ≡ Gone → all_closed s ≡ false) → ((heard : List Mail) × HasHeard kind taken heard × Course d fits start w c heard s) → EndsAs d fits start w c taken kind s
-  ends_early start w c taken kind s early left x = record {
-    messages = x.0;
-    heard = x.1;
-    course = x.2;
+  pub ends_early : (start w : S) (c : RelayConfig) (taken : List Mail) (kind : LaneEndKind) (s : State) → kind ≢ Finished → (kind ≡ Gone → all_closed s ≡ false) → (heard : List Mail) → HasHeard kind taken heard → Course d fits start w c heard s → EndsAs d fits start w c taken kind s
+  ends_early start w c taken kind s early left heard h course = record {
+    messages = heard;
+    heard = h;
+    course = course;
     closed = λ f. absurd (early f);
-    not_closed = λ g. left_open c.producers taken kind s x.0 g x.1 x.2.senders x.2.not_closed (left g);
+    not_closed = λ g. left_open c.producers taken kind s heard g h course.senders course.not_closed (left g);
     none_held = λ f. absurd (early f);
   }
 
@@ -124,14 +124,22 @@ pub finished_as : {A E : Type 0} (kind kind' : LaneEndKind) (r : Result A E) →
 finished_as kind kind' (Ok x) ok err f = sym ok ∙ f
 finished_as kind kind' (Err x) ok err f = absurd (err.0 f)
 
-pub told_at_the_end : {A E : Type 0} (start now : ℕ → Option Told) (number : ℕ) (s t : State) (taken heard : List Mail) (kind kind' : LaneEndKind) (r : Result A E) → t ≡ without_successes s → HasHeard kind taken heard → HasTold start now number t heard
-    → OnErr r ((kind' ≢ Finished) × (kind' ≡ Gone → kind ≡ Gone)) → (kind ≡ Memory → kind' ≡ Memory) → OnOk r (length t.core.reports ≤ number) → EndsTold start now kind' taken t
-told_at_the_end start now number s t taken heard kind kind' r none h x err memory all = record {
-  messages = heard;
-  heard = heard_as kind kind' taken heard memory h;
-  number = number;
-  has_told = x;
-  none_noted = ap (λ (z : State). z.successes) none;
-  all_reported = λ f. told_of_all start now number t heard x (finished_ok kind kind' r (length t.core.reports ≤ number) err all f);
-  explained = told_is_true start now number t heard x;
-}
+pub told_at_the_end : {S A E : Type 0} (d : Bool) (fits : S → Outside → Type 0) (first last : S) (c : RelayConfig) (start now : ℕ → Option Told) (number : ℕ) (s t : State) (taken heard : List Mail) (kind kind' : LaneEndKind) (r : Result A E)
+    → t ≡ without_successes s → HasHeard kind taken heard → Course d fits first last c heard s → HasTold start now number t heard
+    → OnErr r ((kind' ≢ Finished) × (kind' ≡ Gone → kind ≡ Gone)) → (kind ≡ Memory → kind' ≡ Memory) → OnOk r (length t.core.reports ≤ number) → EndsTold d fits first last start now c taken kind' t
+told_at_the_end d fits first last c start now number s t taken heard kind kind' r none h course x err memory all =
+    let ended : Course d fits first last c heard t = forgets d fits last s t heard none first c course in
+    record {
+      messages = heard;
+      heard = heard_as kind kind' taken heard memory h;
+      course = ended;
+      number = number;
+      has_told = x;
+      none_noted = ap (λ (z : State). z.successes) none;
+      all_reported = λ f. told_of_all start now number t heard x (finished_ok kind kind' r (length t.core.reports ≤ number) err all f);
+      explained = λ distinct o p begins explains. explained_truly start now number t heard x distinct o p begins explains;
+      explained_if_stated = λ distinct o p begins explains states. stated_truly start now number t heard x distinct o p begins explains states;
+      described = λ distinct is o f opening below.
+          let g = ended.delivers is o f opening below in
+          record { goes_on = g; truly = told_truly start now number t heard x distinct g.outside g.lane };
+    }

@@ -10,18 +10,19 @@ use Rattle.relay_delivery.specs.Delivery.{HasDistinctNames, IsSound, IsComplete,
 use Rattle.relay_delivery.specs.Machine.{Config, Report, first_in}
 use Rattle.relay_delivery.specs.Explained.{Begins, Explains}
 use Rattle.relay_delivery.specs.Reach.{Reached}
-use Rattle.relay_delivery.proofs.Explained.{explained_fits, explained_sound, explained_complete}
+use Rattle.relay_delivery.proofs.Explained.{explained_sound, explained_complete}
 use Rattle.relay_delivery.specs.Stating.{BeginsBeside, StatesVersions}
 use Rattle.relay_delivery.proofs.Stating.{explained_sound_if_stated, explained_complete_if_stated}
 use Rattle.relay_queue.specs.Ends.{Queue}
 use Rattle.relay_queue.specs.Messages.{IsWellTaken}
 use Rattle.relay_core.specs.declared.config.RelayConfig.{RelayConfig}
 use Rattle.relay_core.specs.State.{config_of}
+use Rattle.relay_core.specs.declared.success.Success.{Success}
 use Rattle.relay_core.specs.Walk.{report_of}
 use Rattle.relay_core.specs.Limits.{is_valid, is_from_to}
 use Rattle.relay_results.specs.Words.{count}
 use Rattle.relay_results.proofs.Lists.{and_left, and_right, Mem-left}
-use Rattle.relay_delivery.specs.Lane.{held_of}
+use Rattle.relay_delivery.specs.Lane.{held_of, fresh_state}
 use Rattle.relay_core.specs.Endings.{is_held_as, is_success_as, is_report_as}
 use Rattle.relay_lane.specs.Once.{is_op_as}
 use Rattle.relay_producer.specs.States.{ClosedProducerState, ClosedControlState}
@@ -33,9 +34,8 @@ use Rattle.relay_threads.specs.declared.lane_end.LaneEndKind.TheVariants.{Finish
 use Rattle.relay_threads.specs.declared.summary.LaneSummary.{LaneSummary}
 use Rattle.relay_threads.specs.Course.{puts_of, HasHeard, IsBelow}
 use Rattle.relay_threads.specs.Promises.{KeepsCourse, KeepsTold}
-use Rattle.relay_threads.specs.Told.{Told, Shows, IsOfTaken}
-use Rattle.relay_threads.specs.ToldAll.{ToldLane, AllTold}
-use Rattle.relay_threads.proofs.ToldOnce.{is_applied}
+use Rattle.relay_threads.specs.Told.{Told, Shows, noted_in, IsOfTaken, IsToldTruly, GoesOnTruly}
+use Rattle.relay_threads.specs.ToldAll.{CarriesTruly, ToldLane, AllTold}
 use Rattle.relay_threads.specs.Lanes.{LaneHandle, queues_of, wires_of, tells_of, AreLanesOf, EndAsPromised, ToldAsPromised}
 use Rattle.relay_threads.specs.Faults.{ends_as, is_memory, is_gone_kind, is_gone_in, is_gone_in_any, is_gone_lane}
 use Rattle.relay_threads.specs.Ending.{EndsOn, AllEndOn, Carries, IsDeliveredFor, FinishedLane, AllFinished}
@@ -236,38 +236,55 @@ module _ {W : Type 0} (describes : W → Bool) (fits : W → Outside → Type 0)
 
 -- ---- what they told
 
--- this is what the lanes have told that have ended, each with what it told by at the start and at the end
-abbrev pub AllEndTold : {W T : Type 0} → (T → ℕ → Option Told) → List T → List (LaneEnd W) → List T → Type 0
-AllEndTold told [] [] [] = Unit {0}
-AllEndTold told [] [] (t ∷ ts) = ⊥
-AllEndTold told [] (e ∷ es) ts = ⊥
-AllEndTold told (f ∷ fs) [] ts = ⊥
-AllEndTold told (f ∷ fs) (e ∷ es) [] = ⊥
-AllEndTold told (f ∷ fs) (e ∷ es) (t ∷ ts) = KeepsTold told f t e × AllEndTold told fs es ts
-
-all_told : {W T : Type 0} (told : T → ℕ → Option Told) (hs : List (LaneHandle W T)) (es : List (LaneEnd W)) (ts : List T) → ToldAsPromised told hs es ts → AllEndTold told (tells_of hs) es ts
-all_told told [] [] [] k = tt
-all_told told [] [] (t ∷ ts) k = absurd k
-all_told told [] (e ∷ es) ts k = absurd k
-all_told told (h ∷ hs) [] ts k = absurd k
-all_told told (h ∷ hs) (e ∷ es) [] k = absurd k
-all_told told (h ∷ hs) (e ∷ es) (t ∷ ts) k = (k.0, all_told told hs es ts k.1)
-
 module _ {W T : Type 0} (describes : W → Bool) (fits : W → Outside → Type 0) (told : T → ℕ → Option Told) (c : RelayConfig) where
-  one_told : (rows : List (List ClosedEnd)) (lane : ℕ) (q : Queue) (w : W) (e : LaneEnd W) (first last : T) (s : LaneSummary W) → e.kind ≡ Finished → EndsOn describes fits c q w e → KeepsTold told first last e → AreMetAt lane 0 e.taken.taken rows → SumsUp e s → ToldLane describes fits told c rows lane first last s
+  -- this is what the lanes have told that have ended, each with its wire at the start, and with what it told by at the
+  -- start and at the end
+  abbrev pub AllEndTold : List W → List T → List (LaneEnd W) → List T → Type 0
+  AllEndTold [] [] [] [] = Unit {0}
+  AllEndTold [] [] [] (t ∷ ts) = ⊥
+  AllEndTold [] [] (e ∷ es) ts = ⊥
+  AllEndTold [] (f ∷ fs) es ts = ⊥
+  AllEndTold (w ∷ ws) [] es ts = ⊥
+  AllEndTold (w ∷ ws) (f ∷ fs) [] ts = ⊥
+  AllEndTold (w ∷ ws) (f ∷ fs) (e ∷ es) [] = ⊥
+  AllEndTold (w ∷ ws) (f ∷ fs) (e ∷ es) (t ∷ ts) = KeepsTold describes fits told c w f t e × AllEndTold ws fs es ts
+
+  all_told : (hs : List (LaneHandle W T)) (es : List (LaneEnd W)) (ts : List T) → AreLanesOf c hs → ToldAsPromised describes fits told hs es ts → AllEndTold (wires_of hs) (tells_of hs) es ts
+  all_told [] [] [] own k = tt
+  all_told [] [] (t ∷ ts) own k = absurd k
+  all_told [] (e ∷ es) ts own k = absurd k
+  all_told (h ∷ hs) [] ts own k = absurd k
+  all_told (h ∷ hs) (e ∷ es) [] own k = absurd k
+  all_told (h ∷ hs) (e ∷ es) (t ∷ ts) own k = (subst (λ g. KeepsTold describes fits told g h.promise.wire.value h.promise.tell.value t e) own.0.0 k.0, all_told hs es ts own.1 k.1)
+
+  -- what is true beside an outside for a lane's end is true for its summary
+  truly : (ops : List Op) (applied : List Success) (reported : List Report) (e : LaneEnd W) (s : LaneSummary W) (p : Outside) → e.lane.state.config ≡ c → SumsUp e s → reported ≡ map report_of s.reports.items
+      → IsToldTruly e.lane.state.core.config ops applied reported p → IsToldTruly (config_of c) ops applied (map report_of s.reports.items) p
+  truly ops applied reported e s p is sum all x =
+      let core : e.lane.state.core.config ≡ config_of c = sum.lane.config ∙ ap config_of is in
+      subst (λ (z : Config × List Report). IsToldTruly z.0 ops applied z.1 p) (λ i. (core i, all i)) x
+
+  carries_truly : (ops : List Op) (applied : List Success) (reported : List Report) (e : LaneEnd W) (s : LaneSummary W) (o : Outside) → e.lane.state.config ≡ c → e.lane.state.core.held ≡ [] → SumsUp e s → HasDistinctNames ops → reported ≡ map report_of s.reports.items
+      → GoesOnTruly fits e.wire e.lane.state ops applied reported o → CarriesTruly describes fits told c ops applied s o
+  unfolding carries
+  carries_truly ops applied reported e s o is none sum distinct all g = record {
+    carries = carries describes fits c ops e s o is none sum distinct g.goes_on;
+    truly = truly ops applied reported e s g.goes_on.outside is sum all g.truly;
+  }
+
+  one_told : (rows : List (List ClosedEnd)) (lane : ℕ) (q : Queue) (w : W) (e : LaneEnd W) (first last : T) (s : LaneSummary W) → e.kind ≡ Finished → EndsOn describes fits c q w e → KeepsTold describes fits told c w first last e → AreMetAt lane 0 e.taken.taken rows → SumsUp e s → ToldLane describes fits told c rows lane w first last s
   one_told rows lane q w e first last s f on k met sum =
-      let x = on.ends in
-      let none = x.none_held f in
+      let none = on.ends.none_held f in
       let all = heard_whole describes fits c e.kind e.taken.taken k.messages f k.heard in
-      let conf : e.lane.state.config ≡ c = x.course.config in
+      let conf : e.lane.state.config ≡ c = k.course.config in
       let core : e.lane.state.core.config ≡ config_of c = sum.lane.config ∙ ap config_of conf in
       let h = k.has_told in
+      let ops = puts_of k.messages in
       let reports : h.reported ≡ map report_of s.reports.items = k.all_reported f ∙ sym sum.reports in
-      let puts = ap puts_of all in
-      let reached : Reached e.lane.state.core (puts_of e.taken.taken) = subst (Reached e.lane.state.core) (sym puts) h.reached.core in
+      let begins : (o : Outside) → BeginsBeside (config_of c) o → BeginsBeside e.lane.state.core.config o = λ o b. subst (λ g. BeginsBeside g o) (sym core) b in
       record {
-        messages = e.taken.taken;
-        met = met;
+        messages = k.messages;
+        met = subst (λ m. AreMetAt lane 0 m rows) all met;
         applied = h.applied;
         shown = subst (Shows (told first) (told last) h.applied) reports h.shown;
         once = λ n.
@@ -275,12 +292,11 @@ module _ {W T : Type 0} (describes : W → Bool) (fits : W → Outside → Type 
             let held = ap (λ es. count (is_held_as n) (held_of es)) none in
             let noted = ap (count (is_success_as n)) k.none_noted in
             let same = ap (count (is_report_as n)) sum.reports in
-            let ops = ap (count (is_op_as n)) puts in
-            omega (arith, y, held, noted, same, ops);
-        versions = λ y m. subst (λ (z : Config × List Op). IsOfTaken z.0 z.1 y) (λ i. (core i, sym puts i)) (h.versions y (Mem-left y h.applied e.lane.state.successes m));
+            omega (arith, y, held, noted, same);
+        versions = λ y m. subst (λ g. IsOfTaken g ops y) core (h.versions y (Mem-left y h.applied e.lane.state.successes m));
         reached = record {
           state = e.lane.state.core;
-          reached = reached;
+          reached = h.reached.core;
           config = core;
           none_held = none;
           taken = sum.taken;
@@ -289,26 +305,27 @@ module _ {W T : Type 0} (describes : W → Bool) (fits : W → Outside → Type 
           requests = sum.requests;
           reports = sum.reports;
         };
-        explained = λ distinct o p opening below explains y m.
-            let first : e.lane.state.core.config.first ≡ first_in c.epoch = ap (λ (g : Config). g.first) core in
-            let begins : Begins e.lane.state.core.config.first o = record { opening = opening; below = λ d u at. subst (λ a. u < a) (sym first) (below d u at) } in
-            is_applied e.lane.state (puts_of e.taken.taken) h.applied (λ n. h.once n ∙ sym (ap (count (is_op_as n)) puts)) distinct y m p (record { core = reached; next = h.reached.next })
-            (explained_fits e.lane.state.core (puts_of e.taken.taken) reached o p begins explains)
-            (subst (λ ops. IsOfTaken e.lane.state.core.config ops y) (sym puts) (h.versions y (Mem-left y h.applied e.lane.state.successes m)));
+        noted = ap (λ g. noted_in h.reached.core.calls (fresh_state g)) (sym core) ∙ h.noted ∙ ap (λ xs. h.applied ++ xs) k.none_noted ∙ append-nil h.applied;
+        explained = λ distinct o p opening below explains.
+            let lowest : e.lane.state.core.config.first ≡ first_in c.epoch = ap (λ (g : Config). g.first) core in
+            truly ops h.applied h.reported e s p conf sum reports
+            (k.explained distinct o p (record { opening = opening; below = λ d u at. subst (λ a. u < a) (sym lowest) (below d u at) }) explains);
+        explained_if_stated = λ distinct o p b explains states. truly ops h.applied h.reported e s p conf sum reports (k.explained_if_stated distinct o p (begins o b) explains states);
+        described = λ distinct is o fit opening below. carries_truly ops h.applied h.reported e s o conf none sum distinct reports (k.described distinct is o fit opening below);
       }
 
-  pub all_told_to : (rows : List (List ClosedEnd)) (lane : ℕ) (qs : List Queue) (ws : List W) (fs : List T) (es : List (LaneEnd W)) (ts : List T) (ss : List (LaneSummary W)) → AllEndOn describes fits c qs ws es → AllKinds describes fits c es → AllEndTold told fs es ts → AllSumUp rows lane es ss
-      → AllTold describes fits told c rows lane fs ts ss
-  all_told_to rows lane qs ws [] [] [] [] a k t s = tt
-  all_told_to rows lane qs ws [] [] [] (x ∷ ss) a k t s = absurd s
-  all_told_to rows lane qs ws [] [] (t' ∷ ts) ss a k t s = absurd t
-  all_told_to rows lane qs ws [] (e ∷ es) ts ss a k t s = absurd t
-  all_told_to rows lane qs ws (f ∷ fs) [] ts ss a k t s = absurd t
-  all_told_to rows lane qs ws (f ∷ fs) (e ∷ es) [] ss a k t s = absurd t
-  all_told_to rows lane qs ws (f ∷ fs) (e ∷ es) (t' ∷ ts) [] a k t s = absurd s
-  all_told_to rows lane [] [] (f ∷ fs) (e ∷ es) (t' ∷ ts) (x ∷ ss) a k t s = absurd a
+  pub all_told_to : (rows : List (List ClosedEnd)) (lane : ℕ) (qs : List Queue) (ws : List W) (fs : List T) (es : List (LaneEnd W)) (ts : List T) (ss : List (LaneSummary W)) → AllEndOn describes fits c qs ws es → AllKinds describes fits c es → AllEndTold ws fs es ts → AllSumUp rows lane es ss
+      → AllTold describes fits told c rows lane ws fs ts ss
+  all_told_to rows lane qs [] [] [] [] [] a k t s = tt
+  all_told_to rows lane qs [] [] [] [] (x ∷ ss) a k t s = absurd s
+  all_told_to rows lane qs [] [] [] (t' ∷ ts) ss a k t s = absurd t
+  all_told_to rows lane qs [] [] (e ∷ es) ts ss a k t s = absurd t
+  all_told_to rows lane qs [] (f ∷ fs) es ts ss a k t s = absurd t
+  all_told_to rows lane qs (w ∷ ws) [] es ts ss a k t s = absurd t
+  all_told_to rows lane qs (w ∷ ws) (f ∷ fs) [] ts ss a k t s = absurd t
+  all_told_to rows lane qs (w ∷ ws) (f ∷ fs) (e ∷ es) [] ss a k t s = absurd t
+  all_told_to rows lane qs (w ∷ ws) (f ∷ fs) (e ∷ es) (t' ∷ ts) [] a k t s = absurd s
   all_told_to rows lane [] (w ∷ ws) (f ∷ fs) (e ∷ es) (t' ∷ ts) (x ∷ ss) a k t s = absurd a
-  all_told_to rows lane (q ∷ qs) [] (f ∷ fs) (e ∷ es) (t' ∷ ts) (x ∷ ss) a k t s = absurd a
   all_told_to rows lane (q ∷ qs) (w ∷ ws) (f ∷ fs) (e ∷ es) (t' ∷ ts) (x ∷ ss) a k t s =
       (one_told rows lane q w e f t' x k.0 a.0 t.0 s.0.0 s.0.1, all_told_to rows (lane + 1) qs ws fs es ts ss a.1 k.1 t.1 s.1)
 
@@ -335,7 +352,7 @@ ends_long d f (h ∷ hs) (e ∷ es) k = ap suc (ends_long d f hs es k.1)
 
 pub record Ready {W T : Type 0} (d : W → Bool) (f : W → Outside → Type 0) (told : T → ℕ → Option Told) (self : RelayState W T) (es : List (LaneEnd W)) (ts : List T) (rows : List (List ClosedEnd)) : Type 0 where
   pub ended : AllEndOn d f self.config self.queues self.wires es
-  pub has_told : AllEndTold told self.tells es ts
+  pub has_told : AllEndTold d f told self.config self.wires self.tells es ts
   pub few_ends : length es ≤ 8
   pub few_rows : length rows ≤ 257
   pub count : length rows ≡ self.config.producers + 1
@@ -344,7 +361,7 @@ pub record Ready {W T : Type 0} (d : W → Bool) (f : W → Outside → Type 0) 
   pub some : 0 < self.config.lanes
 
 pub ready : {W T : Type 0} (d : W → Bool) (f : W → Outside → Type 0) (told : T → ℕ → Option Told) (self : RelayState W T) (config : RelayConfig) (hs : List (LaneHandle W T)) (es : List (LaneEnd W)) (ts : List T) (rows : List (List ClosedEnd)) (ps : List ClosedProducerState) (k : ClosedControlState)
-    → self ≡ record { config = config; queues = queues_of hs; wires = wires_of hs; tells = tells_of hs } → is_valid config ≡ true → length hs ≡ config.lanes → AreLanesOf config hs → EndAsPromised d f hs es → ToldAsPromised told hs es ts → rows ≡ rows_of ps k → length ps ≡ self.config.producers → Ready d f told self es ts rows
+    → self ≡ record { config = config; queues = queues_of hs; wires = wires_of hs; tells = tells_of hs } → is_valid config ≡ true → length hs ≡ config.lanes → AreLanesOf config hs → EndAsPromised d f hs es → ToldAsPromised d f told hs es ts → rows ≡ rows_of ps k → length ps ≡ self.config.producers → Ready d f told self es ts rows
 ready {W = W} {T = T} d f told self config hs es ts rows ps k is valid lanes own kept has_told given count =
     let same : self.config ≡ config = ap (λ (r : RelayState W T). r.config) is in
     let same_p = ap (λ (g : RelayConfig). g.producers) same in
@@ -354,7 +371,7 @@ ready {W = W} {T = T} d f told self config hs es ts rows ps k is valid lanes own
     let sixteen = most_producers config valid in
     record {
       ended = subst (λ (r : RelayState W T). AllEndOn d f r.config r.queues r.wires es) (sym is) (all_end d f config hs es own kept);
-      has_told = subst (λ (r : RelayState W T). AllEndTold told r.tells es ts) (sym is) (all_told told hs es ts has_told);
+      has_told = subst (λ (r : RelayState W T). AllEndTold d f told r.config r.wires r.tells es ts) (sym is) (all_told d f told config hs es ts own has_told);
       few_ends = omega (arith, long, lanes, eight);
       few_rows = omega (arith, rows_long, count, same_p, sixteen);
       count = omega (arith, rows_long, count);

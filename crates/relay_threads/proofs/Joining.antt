@@ -12,10 +12,10 @@ module _ {W T : Type 0} (describes : W → Bool) (fits : W → Outside → Type 
     pub joined : List (LaneHandle W T)
     pub all : lanes ≡ joined ++ left
     pub ended : EndAsPromised describes fits joined ends
-    pub has_told : ToldAsPromised told joined ends tells
+    pub has_told : ToldAsPromised describes fits told joined ends tells
 
   pub joins_none : (lanes : List (LaneHandle W T)) (ends : List (LaneEnd W)) (tells : List T) → ends ≡ [] → tells ≡ [] → JoinsOn lanes lanes ends tells
-  joins_none lanes ends tells e t = record { joined = []; all = refl; ended = subst (EndAsPromised {W = W} {T = T} describes fits []) (sym e) tt; has_told = subst (λ (z : List (LaneEnd W) × List T). ToldAsPromised told [] z.0 z.1) (λ i. (sym e i, sym t i)) tt }
+  joins_none lanes ends tells e t = record { joined = []; all = refl; ended = subst (EndAsPromised {W = W} {T = T} describes fits []) (sym e) tt; has_told = subst (λ (z : List (LaneEnd W) × List T). ToldAsPromised describes fits told [] z.0 z.1) (λ i. (sym e i, sym t i)) tt }
 
   ends_more : (hs : List (LaneHandle W T)) (es : List (LaneEnd W)) (h : LaneHandle W T) (e : LaneEnd W) → EndAsPromised describes fits hs es → KeepsCourse describes fits h.promise.config.value h.promise.take.value h.promise.wire.value e → EndAsPromised describes fits (hs ++ h ∷ []) (es ++ e ∷ [])
   ends_more [] [] h e a k = (k, tt)
@@ -23,7 +23,7 @@ module _ {W T : Type 0} (describes : W → Bool) (fits : W → Outside → Type 
   ends_more (x ∷ hs) [] h e a k = absurd a
   ends_more (x ∷ hs) (y ∷ es) h e a k = (a.0, ends_more hs es h e a.1 k)
 
-  told_more : (hs : List (LaneHandle W T)) (es : List (LaneEnd W)) (ts : List T) (h : LaneHandle W T) (e : LaneEnd W) (t : T) → ToldAsPromised told hs es ts → KeepsTold told h.promise.tell.value t e → ToldAsPromised told (hs ++ h ∷ []) (es ++ e ∷ []) (ts ++ t ∷ [])
+  told_more : (hs : List (LaneHandle W T)) (es : List (LaneEnd W)) (ts : List T) (h : LaneHandle W T) (e : LaneEnd W) (t : T) → ToldAsPromised describes fits told hs es ts → KeepsTold describes fits told h.promise.config.value h.promise.wire.value h.promise.tell.value t e → ToldAsPromised describes fits told (hs ++ h ∷ []) (es ++ e ∷ []) (ts ++ t ∷ [])
   told_more [] [] [] h e t a k = (k, tt)
   told_more [] [] (y ∷ ts) h e t a k = absurd a
   told_more [] (x ∷ es) ts h e t a k = absurd a
@@ -32,7 +32,7 @@ module _ {W T : Type 0} (describes : W → Bool) (fits : W → Outside → Type 
   told_more (x ∷ hs) (y ∷ es) (z ∷ ts) h e t a k = (a.0, told_more hs es ts h e t a.1 k)
 
   pub joins_on : (lanes left left' : List (LaneHandle W T)) (ends : List (LaneEnd W)) (tells : List T) (h : LaneHandle W T) (e : LaneEnd W) (t : T) → JoinsOn lanes left ends tells → left ≡ h ∷ left'
-      → KeepsCourse describes fits h.promise.config.value h.promise.take.value h.promise.wire.value e → KeepsTold told h.promise.tell.value t e → JoinsOn lanes left' (ends ++ e ∷ []) (tells ++ t ∷ [])
+      → KeepsCourse describes fits h.promise.config.value h.promise.take.value h.promise.wire.value e → KeepsTold describes fits told h.promise.config.value h.promise.wire.value h.promise.tell.value t e → JoinsOn lanes left' (ends ++ e ∷ []) (tells ++ t ∷ [])
   joins_on lanes left left' ends tells h e t j is k l = record {
     joined = j.joined ++ h ∷ [];
     all = j.all ∙ ap (λ l. j.joined ++ l) is ∙ sym (append_assoc j.joined (h ∷ []) left');
@@ -46,5 +46,5 @@ module _ {W T : Type 0} (describes : W → Bool) (fits : W → Outside → Type 
   pub joins_all : (lanes left : List (LaneHandle W T)) (ends : List (LaneEnd W)) (tells : List T) → JoinsOn lanes left ends tells → left ≡ [] → EndAsPromised describes fits lanes ends
   joins_all lanes left ends tells j none = subst (λ l. EndAsPromised describes fits l ends) (joined_all lanes left ends tells j none) j.ended
 
-  pub joins_told : (lanes left : List (LaneHandle W T)) (ends : List (LaneEnd W)) (tells : List T) → JoinsOn lanes left ends tells → left ≡ [] → ToldAsPromised told lanes ends tells
-  joins_told lanes left ends tells j none = subst (λ l. ToldAsPromised told l ends tells) (joined_all lanes left ends tells j none) j.has_told
+  pub joins_told : (lanes left : List (LaneHandle W T)) (ends : List (LaneEnd W)) (tells : List T) → JoinsOn lanes left ends tells → left ≡ [] → ToldAsPromised describes fits told lanes ends tells
+  joins_told lanes left ends tells j none = subst (λ l. ToldAsPromised describes fits told l ends tells) (joined_all lanes left ends tells j none) j.has_told

@@ -1,5 +1,6 @@
 pub mod Totals
 pub mod Hearing
+pub mod Noting
 pub mod Keeping
 pub mod Ending
 pub mod Popping

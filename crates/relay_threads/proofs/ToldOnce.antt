@@ -20,11 +20,14 @@ use Rattle.relay_delivery.specs.Delivery.{HasDistinctNames}
 use Rattle.relay_delivery.specs.Explained.{Begins, Explains}
 use Rattle.relay_delivery.specs.Lane.{Entry, held_of}
 use Rattle.relay_delivery.specs.Lane as delivery
-use Rattle.relay_delivery.specs.Machine.{Config, Held, Report, fate_of}
+use Rattle.relay_delivery.specs.Machine.{Config, Core, Held, Report, fate_of, IsFresh}
+use Rattle.relay_delivery.specs.Stating.{BeginsBeside, StatesVersions, IsNewBeside}
 use Rattle.relay_delivery.proofs.Explained.{explained_fits}
-use Rattle.relay_delivery.proofs.Facts.{IsHeldAt, IsAppliedAt, IsReported}
-use Rattle.relay_delivery.proofs.Keeps.{facts_of}
+use Rattle.relay_delivery.proofs.Facts.{Past, TellsOwn, CoreFacts, IsHeldAt, IsAppliedAt, IsReported}
+use Rattle.relay_delivery.proofs.Fitting.{sound_from}
+use Rattle.relay_delivery.proofs.Keeps.{none_past, tells_none, facts_of}
 use Rattle.relay_delivery.proofs.Names.{taken_once}
+use Rattle.relay_delivery.proofs.Stating.{others_past, facts_beside, tells_if_stated, fits_if_stated}
 use Rattle.relay_core.specs.declared.config.RelayConfig.{RelayConfig}
 use Rattle.relay_core.specs.declared.report.Report as core
 use Rattle.relay_core.specs.declared.success.Success.{Success}
@@ -37,13 +40,14 @@ use Rattle.relay_lane.specs.Once.{is_op_as, times}
 use Rattle.relay_lane.specs.Reach.{IsReached}
 use Rattle.relay_lane.specs.Turns.{Turn, Sends, Fails, Settles, Pauses, after_send, after_ticks, after_turn, after_turns, AllMayTurn, MayTurn, Worked, Ticked}
 use Rattle.relay_lane.proofs.Once.{fresh_has_none, take_adds_one, work_keeps_times, forgetting_passes_on}
-use Rattle.relay_lane.proofs.Reaching.{fresh_is_reached, take_is_reached, turn_is_reached, work_is_reached, ticks_reached, reached_is_orderly}
+use Rattle.relay_lane.proofs.Reaching.{turn_is_reached, ticks_reached, reached_is_orderly}
 use Rattle.relay_threads.specs.declared.run.Message.{Message}
 use Rattle.relay_threads.specs.declared.run.Message.TheVariants.{Mark, Other, Nothing}
 use Rattle.relay_threads.specs.Course.{puts_of}
-use Rattle.relay_threads.specs.Steps.{Takes}
-use Rattle.relay_threads.specs.Told.{Told, applied_of, reports_of, AddsApplied, AddsReport, AddsNothing, Shows, IsOfTaken, IsApplied, HasTold, GoesOnTelling, StaysTold}
+use Rattle.relay_threads.specs.Steps as steps
+use Rattle.relay_threads.specs.Told.{Told, applied_of, reports_of, AddsApplied, AddsReport, AddsNothing, Shows, IsOfTaken, IsApplied, IsToldTruly, HasTold, GoesOnTelling, StaysTold}
 use Rattle.relay_threads.proofs.Hearing.{puts_push, puts_tick}
+use Rattle.relay_threads.proofs.Noting.{IsNoted, fresh_noted, take_noted, ticks_noted, work_noted, forgotten_noted}
 
 -- ---- lists
 
@@ -147,15 +151,20 @@ turns_add taken going (t ∷ ts) s may r =
 
 -- ---- it works, and tells nothing
 
+-- what it told of and notes is what its calls noted
+noted_of : (start told : ℕ → Option Told) (k : ℕ) (s : State) (heard : List Mail) → (h : HasTold start told k s heard) → IsNoted s (puts_of heard) (h.applied ++ s.successes)
+noted_of start told k s heard h = record { reached = h.reached; noted = h.noted }
+
 -- more is noted and reported
-adds_told : (start told : ℕ → Option Told) (k : ℕ) (s t : State) (heard : List Mail) → IsReached t (puts_of heard) → Adds (puts_of heard) s t → ((n : OpName) → times n t ≡ times n s) → HasTold start told k s heard → HasTold start told k t heard
-adds_told start told k s t heard r a same h = record {
-  reached = r;
+adds_told : (start told : ℕ → Option Told) (k : ℕ) (s t : State) (heard : List Mail) → (h : HasTold start told k s heard) → IsNoted t (puts_of heard) (h.applied ++ t.successes) → Adds (puts_of heard) s t → ((n : OpName) → times n t ≡ times n s) → HasTold start told k t heard
+adds_told start told k s t heard h r a same = record {
+  reached = r.reached;
   applied = h.applied;
   reported = h.reported;
   waiting = h.waiting ++ a.reports;
   reports = a.all_reports ∙ ap (λ l. l ++ a.reports) h.reports ∙ append_assoc h.reported h.waiting a.reports;
   counted = h.counted;
+  noted = r.noted;
   once = λ n. let x = same n in let y = h.once n in omega (arith, x, y);
   versions = λ x m.
       let old : Mem x (h.applied ++ s.successes) → IsOfTaken t.core.config (puts_of heard) x = λ y. subst (λ g. IsOfTaken g (puts_of heard) x) (sym a.config) (h.versions x y) in
@@ -168,7 +177,7 @@ adds_told start told k s t heard r a same h = record {
 pub works_told : (going : Turn → State → Bool) (s t : State) → Worked going s t → StaysTold s t
 works_told going s t w told k heard start h =
     let a : Adds (puts_of heard) s t = subst (Adds (puts_of heard) s) (sym w.reached) (turns_add (puts_of heard) going w.turns s w.may h.reached) in
-    adds_told start told k s t heard (work_is_reached going s t (puts_of heard) w h.reached) a (λ n. work_keeps_times going s t n w) h
+    adds_told start told k s t heard h (work_noted h.applied going s t (puts_of heard) w (noted_of start told k s heard h)) a (λ n. work_keeps_times going s t n w)
 
 pub as_told : (s t : State) → t ≡ s → StaysTold s t
 as_told s t e told k heard start h = subst (λ z. HasTold start told k z heard) (sym e) h
@@ -177,23 +186,27 @@ pub stays_told : (r s t : State) → StaysTold r s → StaysTold s t → StaysTo
 stays_told r s t x y told k heard start h = y told k heard start (x told k heard start h)
 
 pub flushed_told : (s : State) → StaysTold s (after_flush s)
-flushed_told s told k heard start h = adds_told start told k s (after_flush s) heard (record { core = h.reached.core; next = h.reached.next }) (adds_none (puts_of heard) s (after_flush s) refl refl refl) (λ n. refl) h
+flushed_told s told k heard start h =
+    adds_told start told k s (after_flush s) heard h (record { reached = record { core = h.reached.core; next = h.reached.next }; noted = h.noted })
+    (adds_none (puts_of heard) s (after_flush s) refl refl refl) (λ n. refl)
 
 pub ticked_told : (s t : State) → Ticked s t → StaysTold s t
 ticked_told s t x told k heard start h =
     let u = after_ticks x.ticks s in
-    subst (λ z. HasTold start told k z heard) (sym x.reached) (adds_told start told k s u heard (ticks_reached x.ticks s (puts_of heard) h.reached) (adds_none (puts_of heard) s u refl refl refl) (λ n. refl) h)
+    subst (λ z. HasTold start told k z heard) (sym x.reached)
+    (adds_told start told k s u heard h (ticks_noted h.applied x.ticks s (puts_of heard) (noted_of start told k s heard h)) (adds_none (puts_of heard) s u refl refl refl) (λ n. refl))
 
 -- ---- at the start
 
 pub fresh_told : (start : ℕ → Option Told) (c : RelayConfig) (k : ℕ) (s : State) (heard : List Mail) → s ≡ fresh c → heard ≡ [] → k ≡ 0 → HasTold start start k s heard
 fresh_told start c k s heard is none first = subst (λ (z : State × (List Mail × ℕ)). HasTold start start z.1.1 z.0 z.1.0) (λ i. (sym is i, (sym none i, sym first i))) (record {
-  reached = fresh_is_reached c;
+  reached = (fresh_noted c).reached;
   applied = [];
   reported = [];
   waiting = [];
   reports = refl;
   counted = refl;
+  noted = (fresh_noted c).noted;
   once = λ n. let x = fresh_has_none c n in omega (arith, x);
   versions = λ x m. elim m [ ];
   shown = λ p all e. (all, e, λ i. record { applied = sym (append-nil all.applied) i; reported = sym (append-nil all.reported) i });
@@ -213,8 +226,10 @@ hears_told start told k s heard m h =
     let t = after_take s m.sender m.body in
     let a = op_adds (puts_of heard) s m.sender m.body in
     let put = puts_push heard m in
+    let r = subst (λ ops. IsNoted t ops (h.applied ++ t.successes)) (sym put) (take_noted h.applied s m.sender m.body (puts_of heard) (noted_of start told k s heard h)) in
     record {
-      reached = subst (IsReached t) (sym put) (take_is_reached s m.sender m.body (puts_of heard) h.reached);
+      reached = r.reached;
+      noted = r.noted;
       applied = h.applied;
       reported = h.reported;
       waiting = h.waiting ++ a.reports;
@@ -236,8 +251,10 @@ hears_told start told k s heard m h =
 wakes_told : (start told : ℕ → Option Told) (k : ℕ) (s : State) (heard : List Mail) (m : Mail) → m.body ≡ body.Tick → HasTold start told k s heard → HasTold start told k s (heard ++ m ∷ [])
 wakes_told start told k s heard m tick h =
     let same = puts_tick heard m tick in
+    let r = subst (λ ops. IsNoted s ops (h.applied ++ s.successes)) (sym same) (noted_of start told k s heard h) in
     record {
-      reached = subst (IsReached s) (sym same) h.reached;
+      reached = r.reached;
+      noted = r.noted;
       applied = h.applied;
       reported = h.reported;
       waiting = h.waiting;
@@ -248,7 +265,7 @@ wakes_told start told k s heard m tick h =
       shown = h.shown;
     }
 
-pub takes_told : (told : ℕ → Option Told) (k : ℕ) (s t : State) (old new : List Mail) → Takes s t old new → GoesOnTelling told told k k s t old new
+pub takes_told : (told : ℕ → Option Told) (k : ℕ) (s t : State) (old new : List Mail) → steps.Takes s t old new → GoesOnTelling told told k k s t old new
 takes_told told k s t old new x start h =
     ⊎_elim {C = HasTold start told k t new}
     (λ (e : t ≡ after_take s x.mail.sender x.mail.body). subst (λ (z : List Mail × State). HasTold start told k z.1 z.0) (λ i. (sym x.taken i, sym e i)) (hears_told start told k s old x.mail h))
@@ -256,7 +273,7 @@ takes_told told k s t old new x start h =
     x.reached
 
 -- a message was taken, or none was there
-pub takes_some_told : (told : ℕ → Option Told) (k : ℕ) (s t : State) (old new : List Mail) (m : Message) → (m ≢ Nothing → Takes s t old new) → (m ≡ Nothing → (t ≡ s) × (new ≡ old)) → GoesOnTelling told told k k s t old new
+pub takes_some_told : (told : ℕ → Option Told) (k : ℕ) (s t : State) (old new : List Mail) (m : Message) → (m ≢ Nothing → steps.Takes s t old new) → (m ≡ Nothing → (t ≡ s) × (new ≡ old)) → GoesOnTelling told told k k s t old new
 takes_some_told told k s t old new Mark some none = takes_told told k s t old new (some (λ e. absurd (cc)))
 takes_some_told told k s t old new Other some none = takes_told told k s t old new (some (λ e. absurd (cc)))
 takes_some_told told k s t old new Nothing some none = λ start h. subst (λ (z : List Mail × State). HasTold start told k z.1 z.0) (λ i. (sym (none refl).1 i, sym (none refl).0 i)) h
@@ -277,8 +294,9 @@ shows_applied start old new applied more reported adds shown p all e =
     )
 
 pub tells_applied : (old new : ℕ → Option Told) (k : ℕ) (s t : State) (heard : List Mail) → t ≡ without_successes s → ((p : ℕ) → AddsApplied p s.successes (old p) (new p)) → GoesOnTelling old new k k s t heard heard
-tells_applied old new k s t heard e adds start h = subst (λ z. HasTold start new k z heard) (sym e) (record {
-  reached = record { core = h.reached.core; next = h.reached.next };
+tells_applied old new k s t heard e adds start h = let r = forgotten_noted h.applied s (puts_of heard) (noted_of start old k s heard h) in subst (λ z. HasTold start new k z heard) (sym e) (record {
+  reached = r.reached;
+  noted = r.noted;
   applied = h.applied ++ s.successes;
   reported = h.reported;
   waiting = h.waiting;
@@ -323,6 +341,7 @@ tells_report old new k l s heard r at more adds start h =
     let n = next_is h.reported h.waiting r (ap (slice_get (h.reported ++ h.waiting)) h.counted ∙ ap (λ rs. slice_get rs k) (sym h.reports) ∙ at) in
     record {
       reached = h.reached;
+      noted = h.noted;
       applied = h.applied;
       reported = h.reported ++ r ∷ [];
       waiting = n.0;
@@ -337,6 +356,7 @@ tells_report old new k l s heard r at more adds start h =
 pub tells_nothing : (old new : ℕ → Option Told) (k : ℕ) (s : State) (heard : List Mail) → ((p : ℕ) → AddsNothing (old p) (new p)) → GoesOnTelling old new k k s s heard heard
 tells_nothing old new k s heard adds start h = record {
   reached = h.reached;
+  noted = h.noted;
   applied = h.applied;
   reported = h.reported;
   waiting = h.waiting;
@@ -385,8 +405,9 @@ module _ (s : State) (taken : List Op) (applied : List Success) (once : (n : OpN
       let told = counted_told in
       omega (arith, one, most, all, told)
 
-  pub is_applied : (p : Outside) → IsReached s taken → delivery.Fits s.core taken p → IsOfTaken s.core.config taken x → IsApplied taken p x
-  is_applied p r f t =
+  pub is_applied : (begin : Config → Core → Type 0) (past : Past) (p : Outside) → IsReached s taken → (f : delivery.FitsFrom begin s.core taken p) → CoreFacts s.core.config past f.core → TellsOwn s.core.config past f.core.outside.runs
+      → IsOfTaken s.core.config taken x → IsApplied taken p x
+  is_applied begin past p r f facts tells t =
       let g = s.core.config in
       let c = f.core in
       let held : IsHeldAt g c.held t.place → IsApplied taken p x = λ y.
@@ -406,11 +427,33 @@ module _ (s : State) (taken : List Op) (applied : List Success) (once : (n : OpN
         is_in = subst (λ (o : Outside). Mem y.write (o.applied (document_of t.op.key))) f.outside y.is_in;
         version = y.version ∙ sym t.version;
       } in
-      let there = (facts_of g c f.came_about).nothing_lost t.place t.op (subst (λ ops. slice_get ops t.place ≡ Some t.op) (sym f.took) t.was_taken) in
+      let there = facts.nothing_lost tells t.place t.op (subst (λ ops. slice_get ops t.place ≡ Some t.op) (sym f.took) t.was_taken) in
       ⊎_elim held (λ z. ⊎_elim applied_at reported z) there
 
-pub told_is_true : (start told : ℕ → Option Told) (k : ℕ) (s : State) (heard : List Mail) (h : HasTold start told k s heard) → HasDistinctNames (puts_of heard) → (o p : Outside) → Begins s.core.config.first o → Explains h.reached.core.calls o p
-    → (x : Success) → Mem x h.applied → IsApplied (puts_of heard) p x
-told_is_true start told k s heard h distinct o p begins explains x m =
-    is_applied s (puts_of heard) h.applied h.once distinct x m p h.reached (explained_fits s.core (puts_of heard) h.reached.core o p begins explains)
-    (h.versions x (Mem-left x h.applied s.successes m))
+module _ (start told : ℕ → Option Told) (k : ℕ) (s : State) (heard : List Mail) (h : HasTold start told k s heard) (distinct : HasDistinctNames (puts_of heard)) where
+  -- beside an outside that the lane fits
+  fits_truly : (begin : Config → Core → Type 0) (past : Config → Past) → ((g : Config) (w : Write) → (past g).writes w → ⊥) → (p : Outside) → (f : delivery.FitsFrom begin s.core (puts_of heard) p) → CoreFacts s.core.config (past s.core.config) f.core
+      → TellsOwn s.core.config (past s.core.config) f.core.outside.runs → IsToldTruly s.core.config (puts_of heard) h.applied h.reported p
+  fits_truly begin past nothing p f facts tells =
+      let sound = sound_from begin past nothing s.core (puts_of heard) p f facts distinct in
+      record {
+        each_applied = λ x m. is_applied s (puts_of heard) h.applied h.once distinct x m begin (past s.core.config) p h.reached f facts tells (h.versions x (Mem-left x h.applied s.successes m));
+        versions = sound.versions;
+        assignment = sound.assignment;
+        assigned = sound.assigned;
+        each_reported = λ r m. sound.true_reports r (subst (Mem r) (sym h.reports) (Mem-left r h.reported h.waiting m));
+      }
+
+  pub told_truly : (p : Outside) → delivery.Fits s.core (puts_of heard) p → IsToldTruly s.core.config (puts_of heard) h.applied h.reported p
+  told_truly p f = fits_truly IsFresh none_past (λ g w m. m) p f (facts_of s.core.config f.core f.came_about) (tells_none s.core.config f.core)
+
+  -- beside one that explains its calls
+  pub explained_truly : (o p : Outside) → Begins s.core.config.first o → Explains h.reached.core.calls o p → IsToldTruly s.core.config (puts_of heard) h.applied h.reported p
+  explained_truly o p begins explains = told_truly p (explained_fits s.core (puts_of heard) h.reached.core o p begins explains)
+
+  -- and, if it states the stored versions, whatever was stored before but the versions of the lane
+  pub stated_truly : (o p : Outside) → BeginsBeside s.core.config o → Explains h.reached.core.calls o p → StatesVersions p → IsToldTruly s.core.config (puts_of heard) h.applied h.reported p
+  stated_truly o p begins explains states =
+      let f = fits_if_stated s.core (puts_of heard) h.reached.core o p begins explains in
+      fits_truly IsNewBeside others_past (λ g w m. m) p f (facts_beside s.core.config f.core f.came_about)
+      (tells_if_stated s.core.config f.core (subst (λ q. StatesVersions q) (sym f.outside) states))

@@ -37,10 +37,11 @@ module _ {W T : Type 0} where
       KeepsCourse describes fits h.promise.config.value h.promise.take.value h.promise.wire.value e × EndAsPromised describes fits hs es
 
   -- each lane has told what its thread promised, in order
-  abbrev pub ToldAsPromised : (T → ℕ → Option Told) → List (LaneHandle W T) → List (LaneEnd W) → List T → Type 0
-  ToldAsPromised told [] [] [] = Unit {0}
-  ToldAsPromised told [] [] (t ∷ ts) = ⊥
-  ToldAsPromised told [] (e ∷ es) ts = ⊥
-  ToldAsPromised told (h ∷ hs) [] ts = ⊥
-  ToldAsPromised told (h ∷ hs) (e ∷ es) [] = ⊥
-  ToldAsPromised told (h ∷ hs) (e ∷ es) (t ∷ ts) = KeepsTold told h.promise.tell.value t e × ToldAsPromised told hs es ts
+  abbrev pub ToldAsPromised : (W → Bool) → (W → Outside → Type 0) → (T → ℕ → Option Told) → List (LaneHandle W T) → List (LaneEnd W) → List T → Type 0
+  ToldAsPromised describes fits told [] [] [] = Unit {0}
+  ToldAsPromised describes fits told [] [] (t ∷ ts) = ⊥
+  ToldAsPromised describes fits told [] (e ∷ es) ts = ⊥
+  ToldAsPromised describes fits told (h ∷ hs) [] ts = ⊥
+  ToldAsPromised describes fits told (h ∷ hs) (e ∷ es) [] = ⊥
+  ToldAsPromised describes fits told (h ∷ hs) (e ∷ es) (t ∷ ts) =
+      KeepsTold describes fits told h.promise.config.value h.promise.wire.value h.promise.tell.value t e × ToldAsPromised describes fits told hs es ts

@@ -17,6 +17,7 @@ pub record KeepsCourse {W : Type 0} (describes : W → Bool) (fits : W → Outsi
   pub ends : EndsAs (describes start) fits start end.wire c end.taken.taken end.kind end.lane.state
   pub closed : end.kind ≡ Finished → (sender : ℕ) → sender < take.senders → HasDone (mail_of sender end.taken.taken)
 
--- a lane that told by this at the start has ended as `run_lane` says of what it told
-abbrev pub KeepsTold : {W T : Type 0} → (T → ℕ → Option Told) → T → T → LaneEnd W → Type 0
-KeepsTold told first last end = EndsTold (told first) (told last) end.kind end.taken.taken end.lane.state
+-- a lane of this config, with this wire, that told by this at the start has ended as `run_lane` says of what it told
+abbrev pub KeepsTold : {W T : Type 0} → (W → Bool) → (W → Outside → Type 0) → (T → ℕ → Option Told) → RelayConfig → W → T → T → LaneEnd W → Type 0
+KeepsTold describes fits told c start first last end =
+    EndsTold (describes start) fits start end.wire (told first) (told last) c end.taken.taken end.kind end.lane.state

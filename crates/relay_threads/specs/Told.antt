@@ -1,23 +1,32 @@
 -- What a lane's thread tells of the operations that it took.
-use Rattle.std.specs.Prelude.{◌≡◌, ◌+◌, ◌==◌, ℕ, List, [], ◌∷◌, ◌++◌, Option, Some, filter, length, slice_get}
+use Rattle.std.specs.Prelude.{◌≡◌, ◌+◌, ◌==◌, ℕ, List, [], ◌∷◌, ◌++◌, Option, Some, Bool, IsTrue, filter, length, slice_get}
 use Rattle.relay_action.specs.declared.mail.Mail.{Mail}
 use Rattle.relay_action.specs.declared.operation.Op.{Op}
 use Rattle.relay_action.specs.declared.operation.OpName.{OpName}
 use Rattle.relay_action.specs.declared.write.Write.{Write}
 use Rattle.relay_results.specs.Words.{Mem, count}
 use Rattle.relay_results.specs.Documents.{document_of, name_of}
-use Rattle.relay_results.specs.Outside.{Outside}
-use Rattle.relay_delivery.specs.Delivery.{HasDistinctNames}
+use Rattle.relay_results.specs.Numbers.{from_zero}
+use Rattle.relay_results.specs.Outside.{Outside, IsOpening}
+use Rattle.relay_delivery.specs.Causes.{IsAssignment}
+use Rattle.relay_delivery.specs.Delivery.{HasDistinctNames, IsTrueReport, assigned_at}
 use Rattle.relay_delivery.specs.Explained.{Begins, Explains}
-use Rattle.relay_delivery.specs.Machine.{Config, Report, version_at}
+use Rattle.relay_delivery.specs.Lane as delivery
+use Rattle.relay_delivery.specs.Lane.{held_of, writes_at, fresh_state}
+use Rattle.relay_delivery.specs.Machine.{Config, Report, first_in, version_at}
+use Rattle.relay_delivery.specs.Reach.{Call, Takes, Ticks, Sends, Answers, call}
+use Rattle.relay_delivery.specs.Stating.{BeginsBeside, StatesVersions}
+use Rattle.relay_core.specs.declared.config.RelayConfig.{RelayConfig}
 use Rattle.relay_core.specs.declared.success.Success.{Success}
 use Rattle.relay_core.specs.Endings.{is_success_as}
 use Rattle.relay_core.specs.State.{State}
+use Rattle.relay_core.specs.Successes.{successes_from}
+use Rattle.relay_lane.specs.Delivers.{GoesOn}
 use Rattle.relay_lane.specs.Once.{is_op_as, times}
 use Rattle.relay_lane.specs.Reach.{IsReached}
 use Rattle.relay_threads.specs.declared.lane_end.LaneEndKind.{LaneEndKind}
 use Rattle.relay_threads.specs.declared.lane_end.LaneEndKind.TheVariants.{Finished}
-use Rattle.relay_threads.specs.Course.{puts_of, HasHeard}
+use Rattle.relay_threads.specs.Course.{puts_of, HasHeard, IsBelow, Course}
 
 -- ---- what is told
 
@@ -65,6 +74,20 @@ pub record IsOfTaken (g : Config) (taken : List Op) (x : Success) : Type 0 where
   pub name : x.name ≡ name_of op
   pub version : x.version ≡ version_at g place
 
+-- What a call notes of the operations that it ends as applied. Only an answer ends operations: each is noted with its
+-- version, and with the status of the entry at its place, if the answer has entries that match and this request applied
+-- it, or with none, if an earlier one had.
+abbrev pub noted_by : Call → delivery.State → List Success
+noted_by (Takes o bytes) s = []
+noted_by (Ticks clock) s = []
+noted_by (Sends chosen) s = []
+noted_by (Answers number a) s = successes_from s.config (from_zero number) (writes_at (from_zero number) s.flying) a (held_of s.held)
+
+-- what these calls note, one after another
+abbrev pub noted_in : List Call → delivery.State → List Success
+noted_in [] s = []
+noted_in (c ∷ cs) s = noted_by c s ++ noted_in cs (call c s)
+
 -- the index has applied a write with this version to the document of the operation with this name
 pub record IsApplied (taken : List Op) (o : Outside) (x : Success) : Type 0 where
   pub op : Op
@@ -74,12 +97,22 @@ pub record IsApplied (taken : List Op) (o : Outside) (x : Success) : Type 0 wher
   pub is_in : Mem write (o.applied (document_of op.key))
   pub version : write.version ≡ x.version
 
+-- What was told is true beside this outside: each operation that was told of as applied was applied, with the version
+-- that was told; and each report that was told is on an operation that was taken, and has a true cause, by one
+-- assignment of versions, which follows the places of what was taken.
+pub record IsToldTruly (g : Config) (taken : List Op) (applied : List Success) (reported : List Report) (o : Outside) : Type 0 where
+  pub each_applied : (x : Success) → Mem x applied → IsApplied taken o x
+  pub versions : Op → Option ℕ
+  pub assignment : IsAssignment versions
+  pub assigned : (place : ℕ) (op : Op) → slice_get taken place ≡ Some op → versions op ≡ assigned_at g place
+  pub each_reported : (r : Report) → Mem r reported → IsTrueReport g taken o versions r
+
 -- ---- while the lane works
 
 -- What a lane has told that heard these messages: these operations ended as applied, and its first reports, as many as
 -- the number says. Of each name as many operations are held, noted, reported, and told of as applied as were taken. It
--- reached its state by calls that it may make, and each operation that it notes or told of as applied has the version
--- assigned for its place.
+-- reached its state by calls that it may make, and what it told of as applied, and then notes, is what the answers in
+-- these calls ended so, in order; each of these operations has the version assigned for its place.
 pub record HasTold (start told : ℕ → Option Told) (number : ℕ) (s : State) (heard : List Mail) : Type 0 where
   pub reached : IsReached s (puts_of heard)
   pub applied : List Success
@@ -87,6 +120,7 @@ pub record HasTold (start told : ℕ → Option Told) (number : ℕ) (s : State)
   pub waiting : List Report
   pub reports : s.core.reports ≡ reported ++ waiting
   pub counted : length reported ≡ number
+  pub noted : noted_in reached.core.calls (fresh_state s.core.config) ≡ applied ++ s.successes
   pub once : (n : OpName) → times n s + count (is_success_as n) applied ≡ count (is_op_as n) (puts_of heard)
   pub versions : (x : Success) → Mem x (applied ++ s.successes) → IsOfTaken s.core.config (puts_of heard) x
   pub shown : Shows start told applied reported
@@ -101,13 +135,25 @@ StaysTold s t = (told : ℕ → Option Told) (k : ℕ) (heard : List Mail) → G
 
 -- ---- at the end
 
--- What a lane has told that has ended like this: it notes nothing, and if it finished, it told of all that it reports.
--- Beside each outside that explains its calls, each operation that it told of as applied was applied, with its version.
-pub record EndsTold (start told : ℕ → Option Told) (kind : LaneEndKind) (taken : List Mail) (s : State) : Type 0 where
+-- An outside fits the wire now and continues this one, as delivery promises (`GoesOn`), and what was told is true beside
+-- it.
+pub record GoesOnTruly {S : Type 0} (fits : S → Outside → Type 0) (now : S) (s : State) (taken : List Op) (applied : List Success) (reported : List Report) (before : Outside) : Type 0 where
+  pub goes_on : GoesOn fits now s taken before
+  pub truly : IsToldTruly s.core.config taken applied reported goes_on.outside
+
+-- What a lane has told that has ended like this, of what it heard: it notes nothing, and if it finished, it told of all
+-- that it reports. If no two operations that it heard have the same name, what it told is true beside each outside that
+-- explains its calls, if the versions stored at the start were below those of the lane, or if the outside states the
+-- stored version in each conflict and none of them is one that the lane assigns; and each opening that fitted the wire
+-- at the start is continued to the end by an outside beside which it is true.
+pub record EndsTold {S : Type 0} (describes : Bool) (fits : S → Outside → Type 0) (first now : S) (start told : ℕ → Option Told) (c : RelayConfig) (taken : List Mail) (kind : LaneEndKind) (s : State) : Type 0 where
   pub messages : List Mail
   pub heard : HasHeard kind taken messages
+  pub course : Course describes fits first now c messages s
   pub number : ℕ
   pub has_told : HasTold start told number s messages
   pub none_noted : s.successes ≡ []
   pub all_reported : kind ≡ Finished → has_told.reported ≡ s.core.reports
-  pub explained : HasDistinctNames (puts_of messages) → (o p : Outside) → Begins s.core.config.first o → Explains has_told.reached.core.calls o p → (x : Success) → Mem x has_told.applied → IsApplied (puts_of messages) p x
+  pub explained : HasDistinctNames (puts_of messages) → (o p : Outside) → Begins s.core.config.first o → Explains has_told.reached.core.calls o p → IsToldTruly s.core.config (puts_of messages) has_told.applied has_told.reported p
+  pub explained_if_stated : HasDistinctNames (puts_of messages) → (o p : Outside) → BeginsBeside s.core.config o → Explains has_told.reached.core.calls o p → StatesVersions p → IsToldTruly s.core.config (puts_of messages) has_told.applied has_told.reported p
+  pub described : HasDistinctNames (puts_of messages) → IsTrue describes → (o : Outside) → fits first o → IsOpening o → IsBelow (first_in c.epoch) o → GoesOnTruly fits now s (puts_of messages) has_told.applied has_told.reported o

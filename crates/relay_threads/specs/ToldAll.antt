@@ -1,12 +1,15 @@
 -- What lanes have told that have finished.
-use Rattle.std.specs.Prelude.{◌≡◌, ◌+◌, ℕ, Bool, List, [], ◌∷◌, Option, map}
+use Rattle.std.specs.Prelude.{◌≡◌, ◌+◌, ℕ, Bool, IsTrue, List, [], ◌∷◌, Option, map}
 use Rattle.relay_action.specs.declared.mail.Mail.{Mail}
+use Rattle.relay_action.specs.declared.operation.Op.{Op}
 use Rattle.relay_action.specs.declared.operation.OpName.{OpName}
 use Rattle.relay_results.specs.Words.{Mem, count}
 use Rattle.relay_results.specs.Outside.{Outside, IsOpening}
 use Rattle.relay_delivery.specs.Delivery.{HasDistinctNames}
 use Rattle.relay_delivery.specs.Explained.{Explains}
+use Rattle.relay_delivery.specs.Lane.{fresh_state}
 use Rattle.relay_delivery.specs.Machine.{first_in}
+use Rattle.relay_delivery.specs.Stating.{BeginsBeside, StatesVersions}
 use Rattle.relay_core.specs.declared.config.RelayConfig.{RelayConfig}
 use Rattle.relay_core.specs.declared.success.Success.{Success}
 use Rattle.relay_core.specs.Endings.{is_success_as, is_report_as}
@@ -16,15 +19,24 @@ use Rattle.relay_lane.specs.Once.{is_op_as}
 use Rattle.relay_producer.specs.declared.ends.ClosedEnd.{ClosedEnd}
 use Rattle.relay_threads.specs.declared.summary.LaneSummary.{LaneSummary}
 use Rattle.relay_threads.specs.Course.{puts_of, IsBelow}
-use Rattle.relay_threads.specs.Ending.{CameTo}
+use Rattle.relay_threads.specs.Ending.{CameTo, Carries}
 use Rattle.relay_threads.specs.Sums.{AreMetAt}
-use Rattle.relay_threads.specs.Told.{Told, Shows, IsOfTaken, IsApplied}
+use Rattle.relay_threads.specs.Told.{Told, Shows, noted_in, IsOfTaken, IsToldTruly}
 
 module _ {W T : Type 0} (describes : W → Bool) (fits : W → Outside → Type 0) (told : T → ℕ → Option Told) (c : RelayConfig) where
+  -- An outside fits the wire of the summary and continues the one before, and delivery is sound and complete for it
+  -- (`Carries`); and what was told is true beside it.
+  pub record CarriesTruly (ops : List Op) (applied : List Success) (s : LaneSummary W) (before : Outside) : Type 0 where
+    pub carries : Carries describes fits c ops s before
+    pub truly : IsToldTruly (config_of c) ops applied (map report_of s.reports.items) carries.outside
+
   -- What a lane has told that finished, and took what each sender sent: that these operations ended as applied, and the
-  -- reports of its summary. It told of each operation once, and whatever it told of as applied has the version assigned
-  -- for its place. Beside each outside that explains the calls by which it reached its summary, that was applied.
-  pub record ToldLane (rows : List (List ClosedEnd)) (lane : ℕ) (first last : T) (s : LaneSummary W) : Type 0 where
+  -- reports of its summary. It told of each operation once. What it told of as applied is what the answers in its calls
+  -- ended so, in order, each with the version assigned for its place. If no two operations that it took have the same name, what it told is true beside each outside that
+  -- explains the calls by which it reached its summary, if the versions stored at the start were below those of the lane,
+  -- or if the outside states the stored version in each conflict and none of them is one that the lane assigns; and each
+  -- opening that fitted the wire at the start is continued to the end by an outside beside which it is true.
+  pub record ToldLane (rows : List (List ClosedEnd)) (lane : ℕ) (start : W) (first last : T) (s : LaneSummary W) : Type 0 where
     pub messages : List Mail
     pub met : AreMetAt lane 0 messages rows
     pub applied : List Success
@@ -32,13 +44,18 @@ module _ {W T : Type 0} (describes : W → Bool) (fits : W → Outside → Type 
     pub once : (n : OpName) → count (is_success_as n) applied + count (is_report_as n) (map report_of s.reports.items) ≡ count (is_op_as n) (puts_of messages)
     pub versions : (x : Success) → Mem x applied → IsOfTaken (config_of c) (puts_of messages) x
     pub reached : CameTo describes fits c (puts_of messages) s
-    pub explained : HasDistinctNames (puts_of messages) → (o p : Outside) → IsOpening o → IsBelow (first_in c.epoch) o → Explains reached.reached.calls o p → (x : Success) → Mem x applied → IsApplied (puts_of messages) p x
+    pub noted : noted_in reached.reached.calls (fresh_state (config_of c)) ≡ applied
+    pub explained : HasDistinctNames (puts_of messages) → (o p : Outside) → IsOpening o → IsBelow (first_in c.epoch) o → Explains reached.reached.calls o p → IsToldTruly (config_of c) (puts_of messages) applied (map report_of s.reports.items) p
+    pub explained_if_stated : HasDistinctNames (puts_of messages) → (o p : Outside) → BeginsBeside (config_of c) o → Explains reached.reached.calls o p → StatesVersions p → IsToldTruly (config_of c) (puts_of messages) applied (map report_of s.reports.items) p
+    pub described : HasDistinctNames (puts_of messages) → IsTrue (describes start) → (o : Outside) → fits start o → IsOpening o → IsBelow (first_in c.epoch) o → CarriesTruly (puts_of messages) applied s o
 
-  -- this holds for the lanes from this one on, each with what it told by at the start and at the end
-  abbrev pub AllTold : List (List ClosedEnd) → ℕ → List T → List T → List (LaneSummary W) → Type 0
-  AllTold rows lane [] [] [] = Unit {0}
-  AllTold rows lane [] [] (s ∷ ss) = ⊥
-  AllTold rows lane [] (t ∷ ts) ss = ⊥
-  AllTold rows lane (f ∷ fs) [] ss = ⊥
-  AllTold rows lane (f ∷ fs) (t ∷ ts) [] = ⊥
-  AllTold rows lane (f ∷ fs) (t ∷ ts) (s ∷ ss) = ToldLane rows lane f t s × AllTold rows (lane + 1) fs ts ss
+  -- this holds for the lanes from this one on, each with its wire, and with what it told by at the start and at the end
+  abbrev pub AllTold : List (List ClosedEnd) → ℕ → List W → List T → List T → List (LaneSummary W) → Type 0
+  AllTold rows lane [] [] [] [] = Unit {0}
+  AllTold rows lane [] [] [] (s ∷ ss) = ⊥
+  AllTold rows lane [] [] (t ∷ ts) ss = ⊥
+  AllTold rows lane [] (f ∷ fs) ts ss = ⊥
+  AllTold rows lane (w ∷ ws) [] ts ss = ⊥
+  AllTold rows lane (w ∷ ws) (f ∷ fs) [] ss = ⊥
+  AllTold rows lane (w ∷ ws) (f ∷ fs) (t ∷ ts) [] = ⊥
+  AllTold rows lane (w ∷ ws) (f ∷ fs) (t ∷ ts) (s ∷ ss) = ToldLane rows lane w f t s × AllTold rows (lane + 1) ws fs ts ss

@@ -263,8 +263,9 @@ impl<W: Wire + Drop + Send + 'static, T: Tell + Drop + Send + 'static> Relay<W, 
     ///
     /// After `Ok` each lane has told of each operation that it took once: as applied, or by its
     /// report in the summary. An operation that it told of as applied has the version assigned for
-    /// its place, and beside each outside that explains the lane's calls, the index has applied the
-    /// write with that version.
+    /// its place. Beside each outside that explains the lane's calls, and beside one that continues
+    /// each outside which its wire describes, the index has applied the write with that version, and
+    /// each report has a true cause.
     pub fn finish_telling<R: Threads>(
         self,
         rt: &R,
@@ -282,7 +283,8 @@ impl<W: Wire + Drop + Send + 'static, T: Tell + Drop + Send + 'static> Relay<W, 
             → HavePut puts 0 producers.items
             → AreDeliveredTogether W.describes W.fits self.config puts self.wires r.0.lanes.items) }
         ensures told { IfOk result (λ r. AllTold W.describes W.fits T.told self.config
-            (rows_of producers.items control) 0 self.tells r.1.items r.0.lanes.items) }
+            (rows_of producers.items control) 0 self.wires self.tells
+            r.1.items r.0.lanes.items) }
         ensures fault { IfErr result (λ e. HasFault W.describes W.fits self.config
             self.queues self.wires (rows_of producers.items control) e) }
     {

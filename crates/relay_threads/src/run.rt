@@ -385,14 +385,12 @@ fn take_next<R: Wait, W: Wire, P: Pace, T: Tell>(
     ensures early { IfErr result (λ kind. kind ≢ LaneEndKind.Finished) }
     ensures same_closed { IfErr result
         (λ kind. kind ≡ LaneEndKind.Gone → lane.new.state.closed ≡ lane.old.state.closed) }
-    ensures stopped { IfErr result (λ kind. (heard : List Mail) × HasHeard kind take.new.taken heard
-        × KeepsOn (W.describes wire.old) W.fits wire.old wire.new lane.old.state lane.new.state
-        take.old.taken heard) }
     ensures told { OnOk result
         (GoesOnTelling (T.told tell.old) (T.told tell.new) told.old told.new
         lane.old.state lane.new.state take.old.taken take.new.taken) }
-    ensures stopped_told { IfErr result
-        (λ kind. (heard : List Mail) × HasHeard kind take.new.taken heard
+    ensures stopped { IfErr result (λ kind. (heard : List Mail) × HasHeard kind take.new.taken heard
+        × KeepsOn (W.describes wire.old) W.fits wire.old wire.new lane.old.state lane.new.state
+        take.old.taken heard
         × GoesOnTelling (T.told tell.old) (T.told tell.new) told.old told.new
         lane.old.state lane.new.state take.old.taken heard) }
 {
@@ -431,13 +429,11 @@ fn take_all<R: Wait, W: Wire, P: Pace, T: Tell>(
     ensures early { IfErr result (λ kind. kind ≢ LaneEndKind.Finished) }
     ensures not_closed { IfErr result
         (λ kind. kind ≡ LaneEndKind.Gone → all_closed lane.new.state ≡ false) }
-    ensures stopped { IfErr result (λ kind. (heard : List Mail) × HasHeard kind take.new.taken heard
-        × Course (W.describes wire.old) W.fits wire.old wire.new lane.old.state.config
-        heard lane.new.state) }
     ensures told { OnOk result
         (HasTold (T.told tell.old) (T.told tell.new) told.new lane.new.state take.new.taken) }
-    ensures stopped_told { IfErr result
-        (λ kind. (heard : List Mail) × HasHeard kind take.new.taken heard
+    ensures stopped { IfErr result (λ kind. (heard : List Mail) × HasHeard kind take.new.taken heard
+        × Course (W.describes wire.old) W.fits wire.old wire.new lane.old.state.config
+        heard lane.new.state
         × HasTold (T.told tell.old) (T.told tell.new) told.new lane.new.state heard) }
 {
     let mut more = false;
@@ -471,6 +467,8 @@ fn work<R: Wait, W: Wire, P: Pace, T: Tell>(
     ensures ends { EndsAs (W.describes wire.old) W.fits wire.old wire.new lane.old.state.config
         take.new.taken result lane.new.state }
     ensures told { (heard : List Mail) × HasHeard result take.new.taken heard
+        × Course (W.describes wire.old) W.fits wire.old wire.new lane.old.state.config
+        heard lane.new.state
         × HasTold (T.told tell.old) (T.told tell.new) told.new lane.new.state heard }
 {
     match take_all(rt, take, lane, wire, pace, tell, told) {
@@ -503,8 +501,9 @@ fn kind_after(kind: LaneEndKind, told: Result<(), AllocError>) -> LaneEndKind
 ///
 /// After each round of that it tells `tell` of the operations that ended in it, and at the end that
 /// it ends. So if it ends as Finished, it has told of each operation that it took once, whatever
-/// its wire returned; and if it has told that an operation ended as applied, then beside each
-/// outside that explains its calls the write with that version was applied.
+/// its wire returned. What it told is true beside each outside that explains its calls, and beside
+/// one that continues each outside which the wire describes: if it told that an operation ended as
+/// applied, a write with that version was applied; and each report that it told has a true cause.
 ///
 /// It ends as Memory if the allocation for an operation that it took, for a request or for telling
 /// of a report failed, and as Gone if the queue says that all senders are dropped but not all had closed; [`LaneEnd`] says
@@ -530,8 +529,9 @@ pub fn run_lane<R: Wait, W: Wire, P: Pace + Drop, T: Tell>(
         result.taken.taken result.kind result.lane.state }
     ensures closed { result.kind ≡ LaneEndKind.Finished
         → (sender : ℕ) → sender < take.senders → HasDone (mail_of sender result.taken.taken) }
-    ensures told { EndsTold (T.told tell.old) (T.told tell.new) result.kind result.taken.taken
-        result.lane.state }
+    ensures told { EndsTold (W.describes wire) W.fits wire result.wire
+        (T.told tell.old) (T.told tell.new) lane.state.config
+        result.taken.taken result.kind result.lane.state }
 {
     let mut take = take;
     let mut lane = lane;

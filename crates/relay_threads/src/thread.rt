@@ -32,7 +32,8 @@ pub struct LanePromise<W, T> {
 impl<W: Wire, T: Tell> Promise<(LaneEnd<W>, T)> for LanePromise<W, T> {
     ghost kept_by = { λ p r. KeepsCourse W.describes W.fits
         p.config.value p.take.value p.wire.value r.0
-        × KeepsTold T.told p.tell.value r.1 r.0 };
+        × KeepsTold W.describes W.fits T.told
+        p.config.value p.wire.value p.tell.value r.1 r.0 };
 }
 
 /// A lane in its thread, which returns its end, and the `Tell` after its last call.
@@ -90,7 +91,8 @@ where
     requires places { (vec_len lanes ≤ vec_capacity places)
         × (vec_len lanes ≤ vec_capacity tell_places) }
     ensures ends { EndAsPromised W.describes W.fits lanes.items result.0.items }
-    ensures told { ToldAsPromised T.told lanes.items result.0.items result.1.items }
+    ensures told { ToldAsPromised W.describes W.fits T.told
+        lanes.items result.0.items result.1.items }
 {
     let mut ends = places;
     let mut tells = tell_places;

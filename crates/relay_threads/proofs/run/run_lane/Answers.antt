@@ -5,6 +5,7 @@ use Rattle.relay_lane.specs.Turns.{collects}
 use Rattle.relay_threads.specs.Course.{EndsAs}
 use Rattle.relay_threads.specs.Told.{EndsTold}
 use Rattle.relay_threads.proofs.Ending.{all_closed_there, ends_collected, ends_forgotten, ends_told_as, finished_as, told_at_the_end}
+use Rattle.relay_threads.proofs.Keeping.{course_on, works}
 use Rattle.relay_threads.proofs.ToldOnce.{works_told, tells_nothing, goes_on_telling}
 use Rattle.relay_threads.proofs.run.run_lane.Goals as goal
 
@@ -28,14 +29,20 @@ pub returns-clause-told : goal.returns-clause-told
 returns-clause-told g c =
     let w = c.work-kind.new in
     let x = c.work-kind.ensures.told in
+    let d = g.W.Wire.describes in
+    let fits = g.W.Wire.fits in
+    let config = c.args.lane.state.config in
+    let v = c.collect.new.wire in
     let first = g.T.Tell.told c.args.tell.now in
     let y = g.T.Tell.told w.tell in
     let z = g.T.Tell.told c.tell_all.new.tell in
     let s = c.collect.new.lane.state in
     let t = c.tell_all.new.lane.state in
     let last = g.T.Tell.told c.ended.new.self in
-    subst (λ (e : TakerEnd). EndsTold first last c.kind_after-kind.result e.taken t) (sym c.end.ensures.same)
-    (told_at_the_end first last c.tell_all.new.told s t w.take.taken x.0 c.work-kind.result c.kind_after-kind.result c.tell_all.result c.tell_all.ensures.state x.1
+    subst (λ (e : TakerEnd). EndsTold (d c.args.wire) fits c.args.wire v first last config e.taken c.kind_after-kind.result t) (sym c.end.ensures.same)
+    (told_at_the_end (d c.args.wire) fits c.args.wire v config first last c.tell_all.new.told s t w.take.taken x.0 c.work-kind.result c.kind_after-kind.result c.tell_all.result c.tell_all.ensures.state x.1
+    (course_on (d c.args.wire) (d w.wire) fits c.args.wire w.wire v config w.lane.state s x.0 x.0 c.work-kind.ensures.describes x.2
+    (works (d w.wire) fits collects w.wire v w.lane.state s x.0 c.collect.ensures.worked c.collect.ensures.stays c.collect.ensures.delivers))
     (tells_nothing z last c.tell_all.new.told t x.0 c.ended.ensures first
-    (goes_on_telling y y z w.told w.told c.tell_all.new.told w.lane.state s t x.0 x.0 x.0 (works_told collects w.lane.state s c.collect.ensures.worked y w.told x.0) (c.tell_all.ensures.told x.0) first x.2))
+    (goes_on_telling y y z w.told w.told c.tell_all.new.told w.lane.state s t x.0 x.0 x.0 (works_told collects w.lane.state s c.collect.ensures.worked y w.told x.0) (c.tell_all.ensures.told x.0) first x.3))
     c.kind_after-kind.ensures.not_told c.kind_after-kind.ensures.memory c.tell_all.ensures.all)

@@ -37,10 +37,5 @@ returns-in_err-more-clause-stopped g c =
       x.0,
       x.1,
       course_on (g.W.Wire.describes c.args.wire.now) (g.W.Wire.describes c.messages.wire) g.W.Wire.fits c.args.wire.now c.messages.wire c.take_next.new.wire c.args.lane.now.state.config c.messages.lane.state c.take_next.new.lane.state c.messages.take.taken x.0 i.describes i.course x.2,
+      x.3 (g.T.Tell.told c.args.tell.now) i.told,
     )
-
-pub returns-in_err-more-clause-stopped_told : goal.returns-in_err-more-clause-stopped_told
-returns-in_err-more-clause-stopped_told g c =
-    let x = c.in_err-more.ensures.stopped_told in
-    let p = err_from_is_err_and c.from_residual.result c.from_residual.ensures.1 in
-    rw (p.1, p.2) (x.0, x.1, x.2 (g.T.Tell.told c.args.tell.now) c.messages.invariant.told)

@@ -63,7 +63,7 @@ returns-clause-told g c =
     let was = same_ok _ c.sum_up_all.result c.map_err.result c.in_ok-lanes.lanes c.map_err.ensures.cases c.in_ok-lanes.ensures.variant c.in_ok-lanes.was in
     let r = ready g.W.Wire.describes g.W.Wire.fits g.T.Tell.told c.args.self c.self.inside.config c.self.inside.lanes.items c.join_all-ends.result.0.items c.join_all-ends.result.1.items _ c.args.producers.items c.args.control (sym c.self.view_is) c.self.invariant.0 c.self.invariant.1 c.self.invariant.2 c.join_all-ends.ensures.ends c.join_all-ends.ensures.told c.give_back-rows.ensures.rows (sym c.args.producers.ok.0 ∙ c.requires.count) in
     let rows = map (λ r. r.items) c.give_back-rows.result.items in
-    subst (λ rows. AllTold g.W.Wire.describes g.W.Wire.fits g.T.Tell.told c.args.self.config rows 0 c.args.self.tells c.join_all-ends.result.1.items c.in_ok-lanes.lanes.items) c.give_back-rows.ensures.rows
+    subst (λ rows. AllTold g.W.Wire.describes g.W.Wire.fits g.T.Tell.told c.args.self.config rows 0 c.args.self.wires c.args.self.tells c.join_all-ends.result.1.items c.in_ok-lanes.lanes.items) c.give_back-rows.ensures.rows
     (all_told_to g.W.Wire.describes g.W.Wire.fits g.T.Tell.told c.args.self.config rows 0 c.args.self.queues c.args.self.wires c.args.self.tells c.join_all-ends.result.0.items c.join_all-ends.result.1.items c.in_ok-lanes.lanes.items r.ended
     (may_sum g.W.Wire.describes g.W.Wire.fits c.args.self.config (vec_len c.give_back-rows.result) c.args.self.queues c.args.self.wires c.join_all-ends.result.0.items (map (λ r. r.items) c.give_back-rows.result.items) (vec_len c.join_all-ends.result.0) (c.give_back-rows.result.ok.0 ∙ sym (long_map (λ r. r.items) c.give_back-rows.result.items) ∙ r.count) (sym c.join_all-ends.result.0.ok.0) r.ended (subst (AreRows c.args.self.queues 0) (sym c.give_back-rows.ensures.rows) c.requires.rows) (subst (λ n. FirstOf (ends_as is_memory c.join_all-ends.result.0.items) n None) (sym c.join_all-ends.result.0.ok.0) (subst (TellsFault c.join_all-ends.result.0.items (map (λ r. r.items) c.give_back-rows.result.items)) c.in_default.is c.fault_of.ensures).0) (subst (λ n. FirstOf (is_gone_lane c.join_all-ends.result.0.items (map (λ r. r.items) c.give_back-rows.result.items)) n None) (sym c.join_all-ends.result.0.ok.0) (subst (TellsFault c.join_all-ends.result.0.items (map (λ r. r.items) c.give_back-rows.result.items)) c.in_default.is c.fault_of.ensures).1)).kinds r.has_told (rw was at c.sum_up_all.ensures))
 
