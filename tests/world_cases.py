@@ -1,5 +1,6 @@
 """What `relay world` does."""
 import subprocess
+import tempfile
 
 from program import RELAY, case, check, directory, endless
 from world_scripts import play_all
@@ -355,10 +356,31 @@ def prompt():
     check("and it ends", process.wait(timeout=60) == 0)
 
 
+def before():
+    """A request that the index serves before the script."""
+    first = b"world 1 1 10 10 10 4096 0 3 1 0 3\n"
+    events = b"put 0 b 1 delete\ntake 0\nsend 0\nlost 1\ntick 0\ntake 0\nsend 0\nrun 2 1\nreply 2\n"
+    told = b"ok 0:1\nok\nok 1 b/1@1\nok 0 0 0 1\nok\nok\nok 2 b/1@1\nok 409\n"
+    with tempfile.NamedTemporaryFile(suffix=".ndjson") as file:
+        file.write(b'{"delete":{"_index":"b","_id":"1","version":5,"version_type":"external"}}\n')
+        file.flush()
+        served = ["world", "--writes", file.name]
+        case("a version from before that is stated", [*served, "--reasons"], first + events, told + b"ok 0 0 1 0\naccepted 0 1\nreport 0 0:1 b/1 Conflict\nfinished no\n", b"", 0)
+        case("and one that is not", served, first + events, told + b"ok 0 1 0 0\naccepted 0 1\nfinished no\n", b"", 0)
+        file.write(b"{}\n")
+        file.flush()
+        case("a request that is none", served, first, b"", file.name.encode() + b': {"error":{"line":2,"type":"NotOneAction"},"status":400}\n', 2)
+    case("no such file", ["world", "--writes", file.name], first, b"", file.name.encode() + b": open failed\n", 3)
+    case("a directory", ["world", "--writes", "/"], first, b"", b"/: read failed\n", 3)
+
+
 def scripts():
     """Random scripts; run `world_scripts.py` by hand to play any number of them."""
     _, failures = play_all(RELAY, 2000)
     check("2,000 random scripts", not failures, failures[:5])
+    _, failures = play_all(RELAY, 3000, 10000, stated=True)
+    check("3,000 random scripts over versions from before", not failures, failures[:5])
 
 
-GROUPS = (rows, too_large, restarts, refusals, many, bad_lines, limits, devices, prompt, scripts)
+GROUPS = (rows, too_large, restarts, refusals, many, bad_lines, limits, devices, prompt, before)
+SCRIPTS = (scripts,)

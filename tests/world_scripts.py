@@ -1,12 +1,14 @@
-"""Random scripts for `relay world`: `python3 tests/world_scripts.py PROGRAM COUNT [SEED]`.
+"""Random scripts for `relay world`: `python3 tests/world_scripts.py PROGRAM COUNT [SEED [stated]]`.
 
-A seed determines a config and then events, each of which is chosen by looking at the answers so far. The answers and the
+With `stated` the index states the versions of conflicts, and has some before the script: any that no lane assigns. A seed determines a config and then events, each of which is chosen by looking at the answers so far. The answers and the
 lines at the end are judged only by what happened: which puts were accepted, which items were sent and run, and what was
 answered. Nothing here knows how a lane works.
 """
+import json
 import random
 import subprocess
 import sys
+import tempfile
 import time
 
 EPOCHS, DEAL = 4194303, 1099511627775
@@ -32,7 +34,7 @@ def expect(right, *what):
 class Script:
     """A script that is being played: the running program, and what its answers have shown so far."""
 
-    def __init__(self, relay, seed):
+    def __init__(self, relay, seed, stated=False):
         self.random = random.Random(seed)
         pick = self.random.choice
         self.lanes, self.producers = pick((1, 1, 2, 3, 8)), pick((1, 2, 3, 16))
@@ -44,14 +46,33 @@ class Script:
         self.documents = [(pick(names), str(n)) for n in range(pick((1, 2, 4, 30)))]
         self.faults, self.deaths = pick((0, 0.1, 0.5)), pick((0, 0, 0.01, 0.05))
         self.text, self.said = [], []
-        self.process = subprocess.Popen([relay, "world"], stdin=subprocess.PIPE, stdout=subprocess.PIPE, stderr=subprocess.PIPE)
+        self.stated, self.index, self.live, self.args = stated, {}, set(), ["world"]  # By document: the stored version, and whether it exists.
+        if stated:
+            self.writes = self.write_before()
+            self.args += ["--reasons", "--writes", self.writes.name]
+        self.process = subprocess.Popen([relay, *self.args], stdin=subprocess.PIPE, stdout=subprocess.PIPE, stderr=subprocess.PIPE)
         self.write("world " + " ".join(map(str, self.config)))
         self.requests = []  # For each: its lane, its items, the runs of each, and whether a further answer to it is refused.
         self.whole = []  # A request and the status of its answer, if that reported the operations of the request.
-        self.index, self.applied = {}, {}  # By document: the stored version, and the versions and statuses of the writes applied.
+        self.applied = {}  # By document: the versions and statuses of the writes applied.
         self.accepted = {}  # By epoch and producer: the document and the action of each put.
         self.versions = {}  # By the name of an operation: the version that it was assigned.
         self.begin()
+
+    def write_before(self):
+        """Writes some documents before the script, as the body of a request, under versions that no lane assigns."""
+        file = tempfile.NamedTemporaryFile("w", suffix=".ndjson")
+        for document in self.documents:
+            epoch = self.random.choice((self.epoch, self.epoch + 1, self.random.randrange(EPOCHS + 1)))
+            version = epoch * 2**40 + self.random.choice((0, 0, min(self.deal + 1, 2**40), 2**40))
+            if version and self.random.random() < 0.7:
+                action = self.random.choice(("index", "delete"))
+                metadata = {"_index": document[0], "_id": document[1], "version": version, "version_type": "external"}
+                file.write(json.dumps({action: metadata}) + "\n" + "{}\n" * (action == "index"))
+                self.index["/".join(document)] = version
+                self.live.update(["/".join(document)] * (action == "index"))
+        file.flush()
+        return file
 
     def begin(self):
         """What starts afresh in each incarnation."""
@@ -147,7 +168,7 @@ class Script:
         expect(not any(document in documents for request in flying for document, _ in request["items"]), "a document in flight twice", words)
         items = [(document, int(version)) for document, version in items]
         expect(len(items) == 1 or all(len(items) <= self.caps.get(item, len(items)) for item in items), "past the cap of one of them", words)
-        self.requests.append({"lane": lane, "items": items, "runs": [[] for _ in items], "answered": False})
+        self.requests.append({"lane": lane, "items": items, "runs": [[] for _ in items], "others": [False for _ in items], "answered": False})
         return len(self.requests)
 
     def run(self, request, item, status=None):
@@ -162,8 +183,10 @@ class Script:
             status = self.ran(*self.requests[request - 1]["items"][item - 1])
         expect(words[0] == "ok" and int(words[1]) in (status if isinstance(status, tuple) else (status,)), words, status)
         self.requests[request - 1]["runs"][item - 1].append(int(words[1]))
+        document, version = self.requests[request - 1]["items"][item - 1]
+        if int(words[1]) == 409 and self.index[document] != version:
+            self.requests[request - 1]["others"][item - 1] = True
         if int(words[1]) in (200, 201, 404):
-            document, version = self.requests[request - 1]["items"][item - 1]
             self.index[document] = version
             self.applied.setdefault(document, []).append((version, int(words[1])))
 
@@ -345,7 +368,7 @@ class Script:
     def attribution(self, lines):
         """The names are those of distinct operations, one for each write that was applied, with its action and the version that it
         was assigned; they are in producer order in each epoch, and the epochs come one after another."""
-        named, last, epochs, versions, live = set(), {}, {}, {}, set()
+        named, last, epochs, versions, live = set(), {}, {}, {}, set(self.live)
         expect([words[0] for words in lines] == sorted((words[0] for words in lines), key=lambda d: [part.encode() for part in d.split("/")]), "order of documents")
         for document, version, name in lines:
             operation, action = self.operation(name, document)
@@ -383,7 +406,7 @@ class Script:
                 {
                     "Refused": lambda: len(more) == 2 and int(more[0]) in runs and more[1] == "scripted_refusal",
                     "Request": lambda: len(more) == 1 and any((number, int(more[0])) in self.whole for number, _ in sent),
-                    "Conflict": lambda: not more and len(sent) == 1 and 409 in runs,
+                    "Conflict": lambda: not more and 409 in runs and (len(sent) == 1 or self.stated and any(self.requests[number - 1]["others"][place] for number, place in sent)),
                     "GaveUp": lambda: len(more) == 1 and int(more[0]) == len(sent) and self.attempts <= len(tries),
                     "Spent": lambda: not more and not sent and self.taken[int(lane)] > self.deal,
                 }[cause](),
@@ -395,13 +418,13 @@ class Script:
         return reported
 
 
-def play(relay, seed):
-    script = Script(relay, seed)
+def play(relay, seed, stated=False):
+    script = Script(relay, seed, stated)
     try:
         script.play()
         if seed % 10 == 0:
             text = "\n".join(script.text).encode()
-            again = subprocess.run([relay, "world"], input=text, capture_output=True, timeout=60)
+            again = subprocess.run([relay, *script.args], input=text, capture_output=True, timeout=60)
             expect(again.stdout.decode() == "".join(script.said) + script.end and again.returncode == 0, "another answer if the text comes in one piece")
         return len(script.text)
     except Exception as wrong:
@@ -410,12 +433,12 @@ def play(relay, seed):
         raise Wrong("seed %d, line %d" % (seed, len(script.text)), script.text[-1], *wrong.args) from wrong
 
 
-def play_all(relay, count, first=0):
+def play_all(relay, count, first=0, stated=False):
     """Plays `count` scripts. Returns how many lines they had, and what was wrong."""
     events, failures = 0, []
     for seed in range(first, first + count):
         try:
-            events += play(relay, seed)
+            events += play(relay, seed, stated)
         except Wrong as wrong:
             failures.append(wrong)
     return events, failures
@@ -424,7 +447,7 @@ def play_all(relay, count, first=0):
 def main():
     started = time.monotonic()
     count, first = int(sys.argv[2]), int(sys.argv[3]) if len(sys.argv) > 3 else 0
-    events, failures = play_all(sys.argv[1], count, first)
+    events, failures = play_all(sys.argv[1], count, first, sys.argv[4:] == ["stated"])
     for failure in failures[:20]:
         print("FAILED:", failure)
     print("%d scripts, %d lines, %d failed, %.1f s" % (count, events, len(failures), time.monotonic() - started))

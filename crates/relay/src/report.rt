@@ -12,3 +12,9 @@ pub fn usage<R: Eprint>(rt: &R, text: &str) -> Exit {
     let _ = rt.eprintln(text);
     Exit::Usage
 }
+
+/// Prints what is wrong with a file, and returns the exit status.
+pub fn said<R: Eprint>(rt: &R, path: &str, text: &str, exit: Exit) -> Exit {
+    let _ = eprintln!(rt; "{path}: {text}");
+    exit
+}

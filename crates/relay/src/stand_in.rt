@@ -2,9 +2,15 @@
 ghost use Rattle.std.specs.Prelude.{None};
 ghost use Rattle.relay_index.specs.States.{IsHighest};
 
+use crate::report::{out_of_memory, said};
 use clap::{Arg, ArgAction, ArgMatches};
-use relay_index::Index;
+use relay_action::StdStream;
+use relay_commands::apply::ApplyFault;
+use relay_commands::body::read_body;
+use relay_index::{Index, Script};
+use relay_words::Exit;
 use std::alloc::{AllocError, Global};
+use std::fs::File;
 
 /// The option `--reasons`.
 pub fn reasons<'a>(alloc: Global) -> Arg<'a> {
@@ -26,4 +32,53 @@ pub fn index_of(alloc: Global, matches: &ArgMatches<'_>) -> Index
         index.state_versions();
     }
     index
+}
+
+/// The option `--writes`.
+pub fn writes<'a>(alloc: Global) -> Arg<'a> {
+    Arg::new(alloc, "writes")
+        .long("writes")
+        .value_name("FILE")
+        .action(ArgAction::Set)
+        .help(
+            "A bulk request, as `relay apply` reads it, that the index serves first [default: none]",
+        )
+}
+
+/// The index that a command line asks for, after it has served the request of the file of
+/// `--writes`, if there is one. If that cannot be read or is not a valid request, prints why and
+/// returns the exit status.
+pub fn served_index<R: Eprint + AllocGlobal>(
+    rt: &R,
+    host: HostRuntime,
+    matches: &ArgMatches<'_>,
+) -> Result<Index, Exit> {
+    let mut index = index_of(rt.alloc(), matches);
+    let Some(path) = matches.get_str("writes") else {
+        return Ok(index);
+    };
+    let body = body_of(rt, host, path)?;
+    let mut script = Script::new(rt.alloc());
+    match index.serve_body(rt.alloc(), &body, &mut script) {
+        Ok((200, _)) => Ok(index),
+        Ok((_, text)) => Err(said(rt, path, &text, Exit::Input)),
+        Err(_) => Err(out_of_memory(rt)),
+    }
+}
+
+// The body of the request in a file.
+fn body_of<R: Eprint + AllocGlobal>(
+    rt: &R,
+    host: HostRuntime,
+    path: &str,
+) -> Result<Vec<u8>, Exit> {
+    let Ok(file) = File::open(&host, path) else {
+        return Err(said(rt, path, "open failed", Exit::Device));
+    };
+    match read_body(rt.alloc(), &mut StdStream::new(file)) {
+        Ok(body) => Ok(body),
+        Err(ApplyFault::BodyLong) => Err(said(rt, path, "body too long", Exit::Input)),
+        Err(ApplyFault::Memory) => Err(out_of_memory(rt)),
+        Err(_) => Err(said(rt, path, "read failed", Exit::Device)),
+    }
 }

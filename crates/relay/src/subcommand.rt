@@ -44,6 +44,6 @@ where
         Subcommand::Run => run::execute(rt, host, matches),
         Subcommand::Pick => pick::execute(rt, host, matches),
         Subcommand::Stub => stub::execute(rt, matches),
-        Subcommand::World => world::execute(rt, matches),
+        Subcommand::World => world::execute(rt, host, matches),
     }
 }

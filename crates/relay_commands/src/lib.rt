@@ -12,7 +12,7 @@
 #![tactic(auto)]
 
 pub mod apply;
-mod body;
+pub mod body;
 pub mod exit;
 pub mod lines;
 pub mod outgoing;

@@ -3,6 +3,7 @@
 use crate::{apply, lines};
 use relay_action::{Action, DocKey, MemStream, Write};
 use relay_commands::apply::{ApplyFault, apply};
+use relay_commands::body::read_body;
 use relay_commands::lines::{LinesFault, lines};
 use relay_commands::outgoing::Outgoing;
 use relay_commands::refuse_list::{ListFault, refuse_list};
@@ -73,6 +74,28 @@ fn applies(alloc: Global) -> Option<bool> {
 #[test]
 fn refused_bodies(rt: HostRuntime) {
     assert!(rt; applies(rt.alloc()) == Some(true));
+}
+
+// Whether a body is read as it is, or why it is not.
+fn body_once(alloc: Global) -> Option<Result<bool, ApplyFault>> {
+    let mut reader = stream_of(alloc, apply::TWO)?;
+    match read_body(alloc, &mut reader) {
+        Ok(body) => Some(Ok(body.as_slice() == apply::TWO)),
+        Err(fault) => Some(Err(fault)),
+    }
+}
+
+// Whether it is, by a second call if the first was refused.
+fn reads_body(alloc: Global) -> Option<bool> {
+    match body_once(alloc)? {
+        Err(ApplyFault::Memory) => Some(body_once(alloc)? == Ok(true)),
+        found => Some(found == Ok(true)),
+    }
+}
+
+#[test]
+fn refused_body(rt: HostRuntime) {
+    assert!(rt; reads_body(rt.alloc()) == Some(true));
 }
 
 fn write_once(alloc: Global) -> Option<Write> {

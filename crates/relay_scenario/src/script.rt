@@ -1,6 +1,5 @@
 //! A script of the world: the function behind `relay world`.
-ghost use Rattle.std.specs.Prelude.{◌≡◌, ◌≤◌, [], length, None};
-ghost use Rattle.relay_index.specs.States.{IsHighest};
+ghost use Rattle.std.specs.Prelude.{◌≡◌, ◌≤◌, [], length};
 ghost use Rattle.relay_ndjson.specs.Lines.{piece_limit};
 ghost use Rattle.std.specs.Io.KnownBytes.{prepend_known};
 ghost use Rattle.relay_scenario.specs.Flows.{fresh_sink, sink};
@@ -47,8 +46,8 @@ pub enum ScriptFault {
     Memory,
 }
 
-/// Plays a script on a fresh world over this index, to which no write was applied: the first line
-/// is the world's config, each further line an event. Each event is answered by a line, and the
+/// Plays a script on a fresh world over this index, which may have any versions: the first line is
+/// the world's config, each further line an event. Each event is answered by a line, and the
 /// lines at the end say how the world ended. A fault says how much was written. If there are
 /// several, the first is returned, except that a failed allocation takes precedence over a failed
 /// write, and a failed write over a bad line or a failed read. A failed call of a stream is not
@@ -61,7 +60,6 @@ pub fn world_script<R: ByteIn, W: ByteOut>(
     writer: &mut W,
     index: Index,
 ) -> Result<(), ScriptFault>
-    requires { IsHighest index None }
     ensures script { IsScript index (R.left reader.old) (R.left reader.new)
         (W.written writer.old) (W.written writer.new) result }
     ensures calls { FailsOnce (R.failed reader.old) (R.failed reader.new)
@@ -82,7 +80,6 @@ fn play<R: ByteIn, W: ByteOut>(
     writer: &mut W,
     index: Index,
 ) -> Result<(), ScriptFault>
-    requires fresh { IsHighest index None }
     requires first { lines.old.count ≡ 0 }
     requires none { outgoing.old.text.items ≡ [] }
     requires sent { outgoing.old.sent ≡ 0 }

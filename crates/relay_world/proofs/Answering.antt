@@ -16,7 +16,7 @@ use Rattle.relay_delivery.proofs.Lives.{past_of, facts_together}
 use Rattle.relay_delivery.specs.Renumbering.{numbered_on}
 use Rattle.relay_core.specs.State as lane
 use Rattle.relay_core.specs.State.{config_of}
-use Rattle.relay_world.specs.State.{Desk, Sent, World, ended_of, desk_at, lane_of, op_with, writes_of, has_closed}
+use Rattle.relay_world.specs.State.{Desk, Sent, World, opening_version, ended_of, desk_at, lane_of, op_with, writes_of, has_closed}
 use Rattle.relay_world.specs.Headline.{request_of, runs_of}
 use Rattle.relay_world.specs.Changes.{with_answer, answered_desk}
 use Rattle.relay_world.specs.Ties.{versions_of, IsOriginOf, IsLaneOf, AreLanes, AreRequests, IsTied}
@@ -45,8 +45,8 @@ module _ (w : World) (t : Together) (b : ℕ → ℕ) (i : IsTied w t b) (k : �
   abbrev new : World
   new = over_same w (update s.lane answered w.desks) w.accepted sent_now
 
-  facts : TogetherFacts g (lane_of w) (past_of (ended_of w) g) t
-  facts = facts_together g (lane_of w) (ended_of w) t i.came_about
+  facts : TogetherFacts g (lane_of w) (past_of (opening_version w) (ended_of w)) t
+  facts = facts_together (opening_version w) g (lane_of w) (ended_of w) t i.came_about
 
   is_origin : IsOriginOf w t b k s
   is_origin = i.requests.origins k s here
@@ -73,7 +73,7 @@ module _ (w : World) (t : Together) (b : ℕ → ℕ) (i : IsTied w t b) (k : �
       ap (λ (q : Request). q.answer) (one ∙ two)
 
   may : MayAct g (AnswersAt k a from) t
-  may = (happens_in_lanes g (lane_of w) (past_of (ended_of w) g) t facts).answers k a from origin (record { request = request_of w s; sent = request_is; open_yet = unanswered; honest = honest })
+  may = (happens_in_lanes g (lane_of w) (past_of (opening_version w) (ended_of w)) t facts).answers k a from origin (record { request = request_of w s; sent = request_is; open_yet = unanswered; honest = honest })
 
   -- ---- the desk
 
@@ -139,7 +139,7 @@ module _ (w : World) (t : Together) (b : ℕ → ℕ) (i : IsTied w t b) (k : �
   pub answer_tied : IsTied new u b
   answer_tied = record {
     few = i.few;
-    came_about = act_together g (lane_of w) (ended_of w) t (AnswersAt k a from) i.came_about may (is_origin.of_now of_now).1;
+    came_about = act_together (opening_version w) g (lane_of w) (ended_of w) t (AnswersAt k a from) i.came_about may (is_origin.of_now of_now).1;
     lanes = lanes_now;
     requests = requests_now;
     index = index_kept w (update s.lane answered w.desks) w.accepted sent_now t u i.index i.came_about same_index (takes_more w new t u b b i.lanes lanes_now more_none);

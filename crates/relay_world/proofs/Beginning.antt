@@ -11,11 +11,10 @@ use Rattle.relay_delivery.specs.Machine.{Core}
 use Rattle.relay_delivery.specs.Lane as delivery
 use Rattle.relay_delivery.specs.Together.{Together}
 use Rattle.relay_delivery.proofs.Accounts.{fresh_together}
-use Rattle.relay_delivery.specs.Machine.{first_in}
 use Rattle.relay_delivery.specs.Renumbering.{numbered_on}
 use Rattle.relay_core.specs.State.{config_of}
 use Rattle.relay_world.specs.declared.sender.Sender.{Sender}
-use Rattle.relay_world.specs.State.{Desk, fresh, fresh_desk, has_closed, lane_of, IsBelow, taken_of}
+use Rattle.relay_world.specs.State.{Desk, fresh, fresh_desk, has_closed, opening_version, lane_of, taken_of}
 use Rattle.relay_world.specs.Ties.{queue_of, core_of, IsLaneOf, IsTied, FreshIsBelow, HighestIsBelow, FreshIsWorld}
 use Rattle.relay_world.proofs.Starting.{at-all}
 
@@ -66,7 +65,7 @@ highest_is_below first i (Some v) h above k u e =
 
 -- ---- the fresh world
 
-module _ (c : RelayConfig) (i : index.State) (few : c.deal < 2 ^ 40) (below : IsBelow (first_in c.epoch) i) where
+module _ (c : RelayConfig) (i : index.State) (few : c.deal < 2 ^ 40) where
   abbrev opening : Outside
   opening = record { requests = []; runs = []; stored = index.stored_version i; before = index.applied_writes i; applied = λ k. [] }
 
@@ -79,11 +78,12 @@ module _ (c : RelayConfig) (i : index.State) (few : c.deal < 2 ^ 40) (below : Is
   tied : IsTied (fresh c i) machines (λ l. 0)
   tied = record {
     few = few;
-    came_about = fresh_together (config_of c) (lane_of (fresh c i)) machines (record {
-      lanes = record { accepted = λ p. refl; queue = λ l. refl; lane = λ l. record { new = record { taken = refl; held = refl; reports = refl; applied = refl; already = refl; opening = record { requests = refl; runs = refl; applied = λ k. refl } }; below = below } };
+    came_about = fresh_together (opening_version (fresh c i)) (config_of c) (lane_of (fresh c i)) machines (record {
+      lanes = record { accepted = λ p. refl; queue = λ l. refl; lane = λ l. record { taken = refl; held = refl; reports = refl; applied = refl; already = refl; opening = record { requests = refl; runs = refl; applied = λ k. refl } } };
       sent = refl;
       origins = refl;
       runs = refl;
+      found = λ l k. refl;
     });
     lanes = record {
       producers = length-same c.producers [];
@@ -109,4 +109,8 @@ module _ (c : RelayConfig) (i : index.State) (few : c.deal < 2 ^ 40) (below : Is
       at_core (Some d) f = subst (λ x. delivery.IsOf (numbered_on 0 (core_of (config_of c) (Some x))) core) (sym (f d refl)) (record { taken = refl; held = refl; reports = refl; applied = refl; already = refl; requests = refl; flying = λ x m. absurd m })
 
 pub fresh_is_world : FreshIsWorld
-fresh_is_world c i few below = record { machines = machines c i few below; before = λ l. 0; tied = tied c i few below }
+fresh_is_world c i few = record {
+  has = record { machines = machines c i few; before = λ l. 0; tied = tied c i few };
+  states = refl;
+  stated = λ on request place o m. absurd m;
+}

@@ -1,24 +1,26 @@
 -- What a world that is tied to its machines delivers.
 use Rattle.std.proofs.Common.{◌≡◌, ℕ, zero, suc, List, [], ◌∷◌, length, Option, Some, None, Bool, true, false, ◌==◌, refl, sym, ap, ◌∙◌, subst, ⊎_elim, inl, inr, arith}
-use Rattle.std.specs.Prelude.{◌+◌, ◌≤◌, slice_get, nat_lt, map, filter, ◌&&◌, if◌then◌else◌}
+use Rattle.std.specs.Prelude.{◌+◌, ◌<◌, ◌≤◌, ◌++◌, slice_get, nat_lt, map, filter, ◌&&◌, if◌then◌else◌}
 use borrow.Author.Tests.{ltb-true, ltb-false}
 use Rattle.std.specs.List.{list_all}
 use Rattle.relay_action.specs.declared.operation.Op.{Op}
 use Rattle.relay_results.specs.Words.{Mem, AllDistinct}
+use Rattle.relay_results.specs.Outside.{Ran}
 use Rattle.relay_results.specs.Documents.{document_of, name_of}
-use Rattle.relay_results.proofs.Lists.{equal, and_left, and_right, at-Mem}
+use Rattle.relay_results.proofs.Lists.{equal, equal_test, and_left, and_right, at-Mem, Mem-left, Mem-right}
 use Rattle.relay_delivery.specs.Attribution.{IsAttribution, IsInProducerOrder, is_in}
 use Rattle.relay_delivery.specs.Causes.{IsTrueCause}
-use Rattle.relay_delivery.specs.Machine.{Config, Report}
+use Rattle.relay_delivery.specs.Machine.{Config, Report, first_in}
 use Rattle.relay_delivery.specs.Delivery.{names_of, terms_of}
 use Rattle.relay_delivery.specs.Lane as delivery
+use Rattle.relay_delivery.specs.Stating as stating
 use Rattle.relay_delivery.specs.Lanes.{IsFinished}
 use Rattle.relay_delivery.specs.Together.{Together}
 use Rattle.relay_delivery.specs.Restarts.{with_running}
-use Rattle.relay_delivery.specs.Incarnations.{accepted_over, accepted_in, attributed_together}
+use Rattle.relay_delivery.specs.Incarnations.{accepted_over, accepted_in, attributed_together, IsCompleteTogether, first_of}
 use Rattle.relay_delivery.specs.Renumbering.{entry_on}
 use Rattle.relay_delivery.specs.Together as together
-use Rattle.relay_delivery.proofs.Accounts.{sound_together, complete_together}
+use Rattle.relay_delivery.proofs.Accounts.{sound_together, complete_together, complete_together_if_stated}
 use Rattle.relay_delivery.proofs.Versions.{version_in, version_of, none_over}
 use Rattle.relay_delivery.proofs.Queues.{taken_distinct, was_accepted}
 use Rattle.relay_delivery.proofs.Joined as joined
@@ -26,8 +28,8 @@ use Rattle.relay_delivery.proofs.Sharing.{TogetherFacts, true_all}
 use Rattle.relay_delivery.proofs.Lives.{past_of, facts_together}
 use Rattle.relay_world.proofs.Past.{running_seen, epochs_rise}
 use Rattle.relay_core.specs.State.{config_of}
-use Rattle.relay_world.specs.State.{Desk, World, ended_of, desk_at, lane_of, accepted_from, applied_writes, reports_of, reports, all_closed, is_done, is_finished, taken_ops}
-use Rattle.relay_world.specs.Headline.{outside_of, terms_at, version_at, IsTrueReport, Delivered}
+use Rattle.relay_world.specs.State.{Desk, Past, World, opening_version, incarnation, ended_of, desk_at, lane_of, accepted_from, applied_writes, reports_of, reports, all_closed, is_done, is_finished, taken_ops}
+use Rattle.relay_world.specs.Headline.{outcomes_at, outside_of, terms_at, version_at, IsTrueReport, epoch_of_first, StatesVersions, AreAccountedFor, Delivered}
 use Rattle.relay_world.specs.Ties.{puts_of, queue_of, core_of, IsTied, WorldsDeliver}
 
 -- a test that all pass
@@ -43,6 +45,17 @@ nothing (x ∷ xs) e = absurd (omega (arith, e))
 core_reports : (g : Config) (o : Option Desk) → (core_of g o).reports ≡ reports_of o
 core_reports g None = refl
 core_reports g (Some d) = refl
+
+-- the outcome of a run in a log is one of its item
+logged : (log : List Ran) (r : Ran) → Mem r log → Mem r.outcome (outcomes_at r.request r.place log)
+logged [] r m = absurd m
+logged (x ∷ xs) r m = ⊎_elim
+    (λ e.
+    let here : (if (r.request == r.request) && (r.place == r.place) then r.outcome ∷ [] else []) ≡ r.outcome ∷ [] = (λ j. if equal_test r.request r.request refl j && equal_test r.place r.place refl j then r.outcome ∷ [] else []) in
+    subst (λ (y : Ran). Mem r.outcome ((if (y.request == r.request) && (y.place == r.place) then y.outcome ∷ [] else []) ++ outcomes_at r.request r.place xs)) e
+    (Mem-left r.outcome (if (r.request == r.request) && (r.place == r.place) then r.outcome ∷ [] else []) (outcomes_at r.request r.place xs) (subst (λ os. Mem r.outcome os) (sym here) (inl refl))))
+    (λ l. Mem-right r.outcome (if (x.request == r.request) && (x.place == r.place) then x.outcome ∷ [] else []) (outcomes_at r.request r.place xs) (logged xs r l))
+    m
 
 module _ (w : World) (t : Together) (b : ℕ → ℕ) (i : IsTied w t b) where
   abbrev g : Config
@@ -81,8 +94,8 @@ module _ (w : World) (t : Together) (b : ℕ → ℕ) (i : IsTied w t b) where
     lanes = λ l. sym (i.lanes.lane l).held ∙ ap (λ es. delivery.held_of (map (entry_on (b l)) es)) (done_at f l (desk_at w l) refl).1;
   }
 
-  facts : TogetherFacts g (lane_of w) (past_of (ended_of w) g) t
-  facts = facts_together g (lane_of w) (ended_of w) t i.came_about
+  facts : TogetherFacts g (lane_of w) (past_of (opening_version w) (ended_of w)) t
+  facts = facts_together (opening_version w) g (lane_of w) (ended_of w) t i.came_about
 
   -- the versions that the lanes assigned
   abbrev versions : Op → Option ℕ
@@ -98,10 +111,10 @@ module _ (w : World) (t : Together) (b : ℕ → ℕ) (i : IsTied w t b) where
       took = ap (λ xs. slice_get xs place) (i.lanes.taken l) ∙ at
 
       its_lane : lane_of w (document_of o.key) ≡ l
-      its_lane = (was_accepted g (lane_of w) (past_of (ended_of w) g) t.lanes facts.lanes l o (at-Mem os place o took)).1
+      its_lane = (was_accepted g (lane_of w) (past_of (opening_version w) (ended_of w)) t.lanes facts.lanes l o (at-Mem os place o took)).1
 
       distinct : AllDistinct (map name_of os)
-      distinct = taken_distinct g (lane_of w) (past_of (ended_of w) g) t.lanes facts.lanes l
+      distinct = taken_distinct g (lane_of w) (past_of (opening_version w) (ended_of w)) t.lanes facts.lanes l
 
       none : (v : Option ℕ) → g.deals ≤ place → version_in g.first g.deals os o ≡ v → v ≡ None
       none None past e = refl
@@ -113,8 +126,8 @@ module _ (w : World) (t : Together) (b : ℕ → ℕ) (i : IsTied w t b) where
 
   true_report : (l : ℕ) (r : Report) → Mem r (reports w l) → IsTrueReport w t.runs versions l r
   true_report l r m =
-      let x = joined.true_report g (lane_of w) (past_of (ended_of w) g) t.lanes facts.lanes l r (subst (Mem r) (sym (reports_same l)) m) in
-      let cause = true_all g (lane_of w) (past_of (ended_of w) g) t facts l (terms_of g (t.lanes.lane l).taken) x.op x.of_lane (versions x.op) r.cause x.cause in
+      let x = joined.true_report g (lane_of w) (past_of (opening_version w) (ended_of w)) t.lanes facts.lanes l r (subst (Mem r) (sym (reports_same l)) m) in
+      let cause = true_all g (lane_of w) (past_of (opening_version w) (ended_of w)) t facts l (terms_of g (t.lanes.lane l).taken) x.op x.of_lane (versions x.op) r.cause x.cause in
       record {
         op = x.op;
         producer = x.producer;
@@ -126,9 +139,9 @@ module _ (w : World) (t : Together) (b : ℕ → ℕ) (i : IsTied w t b) where
             (subst (λ u. IsTrueCause u (together.outside_of (lane_of w) t) x.op (versions x.op) r.cause) (terms_same l) cause);
       }
 
-  delivered : Delivered w
-  delivered =
-      let s = sound_together g (lane_of w) (ended_of w) t i.came_about in
+  delivered : (w.opening.states ≡ true → StatesVersions w) → Delivered w
+  delivered stated =
+      let s = sound_together (opening_version w) g (lane_of w) (ended_of w) t i.came_about in
       record {
         log = t.runs;
         ran = i.requests.runs;
@@ -140,15 +153,27 @@ module _ (w : World) (t : Together) (b : ℕ → ℕ) (i : IsTied w t b) where
         by_epoch = s.by_epoch;
         rising = epochs_rise w t b i;
         versions = versions;
-        assignment = joined.assignment g (lane_of w) (past_of (ended_of w) g) t.lanes facts.lanes;
+        assignment = joined.assignment g (lane_of w) (past_of (opening_version w) (ended_of w)) t.lanes facts.lanes;
         assigned = assigned;
         true_reports = true_report;
         once = λ l. subst (λ rs. AllDistinct (names_of rs)) (reports_same l) (s.once l);
         in_one_lane = λ l m r q mr mq e. s.in_one_lane l m r q (subst (Mem r) (sym (reports_same l)) mr) (subst (Mem q) (sym (reports_same m)) mq) e;
-        complete = λ f p o m.
-            let c = complete_together g (lane_of w) (ended_of w) t i.came_about (finished f) p o (subst (λ os. Mem o os) (sym (i.lanes.accepted p)) m) in
-            ⊎_elim inl (λ r. inr (subst (λ rs. Mem (name_of o) (names_of rs)) (reports_same (lane_of w (document_of o.key))) r)) c;
+        complete = λ below f. accounted (complete_together (opening_version w) g (lane_of w) (ended_of w) t i.came_about (λ k u e. subst (λ n. u < n) (sym (first_is w.ended)) (below k u e)) (finished f));
+        complete_if_stated = λ on beside f. accounted (complete_together_if_stated (opening_version w) g (lane_of w) (ended_of w) t i.came_about beside (states on) (finished f));
       }
+    where
+      -- what the machines account for, the world does
+      accounted : IsCompleteTogether (lane_of w) t (attributed_together g (lane_of w) (ended_of w) t) → AreAccountedFor w (attributed_together g (lane_of w) (ended_of w) t)
+      accounted all p o m = ⊎_elim inl
+          (λ r. inr (subst (λ rs. Mem (name_of o) (names_of rs)) (reports_same (lane_of w (document_of o.key))) r))
+          (all p o (subst (λ os. Mem o os) (sym (i.lanes.accepted p)) m))
+
+      first_is : (ps : List Past) → (first_of (map (incarnation w.config) ps) g).first ≡ first_in (epoch_of_first ps w.config.epoch)
+      first_is [] = refl
+      first_is (p ∷ ps) = refl
+
+      states : w.opening.states ≡ true → stating.StatesVersions (together.outside_of (lane_of w) t)
+      states on r m conflict = stated on r.request r.place r.outcome (subst (λ os. Mem r.outcome os) (i.requests.runs r.request r.place) (logged t.runs r m)) conflict
 
 pub worlds_deliver : WorldsDeliver
-worlds_deliver w k = delivered w k.machines k.before k.tied
+worlds_deliver w k = delivered w k.has.machines k.has.before k.has.tied k.stated

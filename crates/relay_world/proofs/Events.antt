@@ -1,18 +1,20 @@
 -- Each event keeps a world tied.
-use Rattle.std.proofs.Common.{◌≡◌, ◌≢◌, ℕ, zero, suc, ◌+◌, ◌-◌, ◌<◌, List, [], ◌∷◌, length, Option, Some, None, Bool, true, false, ◌==◌, refl, sym, ap, ◌∙◌, subst, arith}
+use Rattle.std.proofs.Common.{◌≡◌, ◌≢◌, ℕ, zero, suc, ◌+◌, ◌-◌, ◌<◌, List, [], ◌∷◌, ◌++◌, length, Option, Some, None, Bool, true, false, ◌==◌, refl, sym, ap, ◌∙◌, subst, arith, append-nil}
 use Rattle.std.specs.Prelude.{slice_get, option_and_then, option_map, is_some, unwrap_or, not, ◌&&◌, nat_lt, nat_le, if◌then◌else◌}
 use borrow.Author.Tests.{ltb-false, ltb-true, leb-false, leb-true}
 use Rattle.relay_action.specs.declared.operation.Op.{Op}
 use Rattle.relay_action.specs.declared.mail.Mail.{Mail}
+use Rattle.relay_batch.specs.declared.item.BatchItem.{BatchItem}
 use Rattle.relay_action.specs.declared.mail.Body.TheVariants as body
 use Rattle.relay_results.specs.declared.outcome.Outcome.{Outcome}
-use Rattle.relay_results.specs.Words.{Mem}
+use Rattle.relay_results.specs.Words.{Mem, update}
 use Rattle.relay_results.specs.Documents.{write_for}
 use Rattle.relay_results.specs.Outside.{Answer, Items, Whole, Lost, Ran, RunOutcome, EachWasRun, IsHonest}
 use Rattle.relay_results.proofs.Lists.{and_left, and_right, not_true, equal, equal_test, at-Mem, some_same}
 use Rattle.relay_index.specs.declared.choice.Choice.{Choice}
 use Rattle.relay_index.specs.declared.choice.Choice.TheVariants as choice
 use Rattle.relay_index.specs.Choices.{MayChoose}
+use Rattle.relay_index.specs.States as index
 use Rattle.relay_delivery.specs.Together.{Together}
 use Rattle.relay_core.specs.State as lane
 use Rattle.relay_world.specs.declared.event.Event.{Event}
@@ -21,18 +23,20 @@ use Rattle.relay_world.specs.declared.event.Refusal.{Refusal}
 use Rattle.relay_world.specs.declared.event.StepAnswer.{StepAnswer}
 use Rattle.relay_world.specs.declared.sender.Sender.{Sender}
 use Rattle.relay_world.specs.State.{Desk, Item, Sent, World, desk_at, element_at, request_at, op_with, write_at, writes_of, is_closed}
-use Rattle.relay_world.specs.Headline.{runs_of, runs_at}
+use Rattle.relay_world.specs.Headline.{runs_of, runs_at, StatesVersions}
 use Rattle.relay_world.specs.Refusals.{cause_if, at_desk, is_spent, may_choose, flies_at, is_flying, run_by, entry_for, entry_at, and_more, entries_from, entries, are_picks, at_request, is_whole, front_refusal, is_above, refusal}
-use Rattle.relay_world.specs.Changes.{op_of_put, Answers, Changes}
+use Rattle.relay_world.specs.Changes.{op_of_put, items_of, request_of, sent_by, after_send, outcome_of, with_answer, after_answer, Answers, Changes}
 use Rattle.relay_world.specs.Steps.{StepsBy}
-use Rattle.relay_world.specs.Ties.{IsTied, IsWorld, StepsKeepTied}
-use Rattle.relay_world.proofs.Logged.{LoggedRun, logged_run}
+use Rattle.relay_world.specs.Ties.{IsTied, HasMachines, IsWorld, StepsKeepTied}
+use Rattle.relay_world.proofs.Alike.{seen_unmoved}
+use Rattle.relay_world.proofs.Logged.{LoggedRun, logged_run, pushed_at}
+use Rattle.relay_world.proofs.Stated.{states_one, runs_in, AreStated, stated_same, stated_more}
 use Rattle.relay_world.proofs.Posting.{control_tied, close_tied, put_tied}
 use Rattle.relay_world.proofs.Fetching.{take_tied}
-use Rattle.relay_world.proofs.Requesting.{send_tied}
+use Rattle.relay_world.proofs.Requesting.{none_run, send_tied}
 use Rattle.relay_world.proofs.Answering.{answer_tied}
 use Rattle.relay_world.proofs.Outcomes.{run_tied}
-use Rattle.relay_world.proofs.Restarting.{restart_world}
+use Rattle.relay_world.proofs.Restarting.{restart_machines}
 
 -- ---- no cause holds
 
@@ -160,12 +164,21 @@ may_choose_is (choice.Refuse status) e =
 not_ok : (status : ℕ) → is_whole status ≡ true → status ≢ 200
 not_ok status e q = let lt = ltb-true 200 status (and_left (nat_lt 200 status) (nat_le status 599) e) in omega (arith, lt, q)
 
+-- ---- two worlds that differ in what happened alone
+
+alike : {new made : World} → new ≡ made → (new.opening ≡ made.opening) × (new.index.states ≡ made.index.states)
+alike e = (ap (λ (z : World). z.opening) e, ap (λ (z : World). z.index.states) e)
+
+none_sent : (b : Option (List BatchItem)) (place : ℕ) → runs_of (slice_get (items_of b) place) ≡ []
+none_sent None place = refl
+none_sent (Some is) place = none_run is place
+
 -- ---- an answer
 
-answers_keep : (w new : World) (k : IsWorld w) (request : ℕ) (s : Sent) (a : Answer) (x : StepAnswer) → request_at w request ≡ Some s → is_flying w s ≡ true → Answers w request s a x new
-    → IsHonest k.machines.runs (request - 1) (writes_of w s) a → IsWorld new
+answers_keep : (w new : World) (k : HasMachines w) (request : ℕ) (s : Sent) (a : Answer) (x : StepAnswer) → request_at w request ≡ Some s → is_flying w s ≡ true → Answers w request s a x new
+    → IsHonest k.machines.runs (request - 1) (writes_of w s) a → HasMachines new
 answers_keep w new k request s a x was flies c honest =
-    subst IsWorld (sym c.after) (record {
+    subst HasMachines (sym c.after) (record {
       machines = _;
       before = k.before;
       tied = answer_tied w k.machines k.before k.tied (request - 1) s (at_number w.sent request s was) a c.desk c.there
@@ -182,65 +195,119 @@ flying_is w request s f r was q =
 
 -- ---- each event
 
-changes_keep : (w new : World) (e : Event) (x : StepAnswer) → (k : IsWorld w) → refusal w e ≡ None → Changes w e x new → IsWorld new
-changes_keep w new (event.Put p key action) x k q c =
+machines_on : (w new : World) (e : Event) (x : StepAnswer) → (k : HasMachines w) → refusal w e ≡ None → Changes w e x new → HasMachines new
+machines_on w new (event.Put p key action) x k q c =
     let known = unrefused (nat_le w.config.producers p) _ _ q in
     let open_yet = unrefused (is_closed w p) _ _ known.1 in
     let lt = leb-false w.config.producers p known.0 in
     let n = k.tied.lanes.producers in
     let os = there_at w.accepted p (omega (arith, lt, n)) in
     let d = at_desk_none _ _ (unrefused (is_spent w p) _ _ open_yet.1).1 in
-    subst IsWorld (sym c.1) (record {
+    subst HasMachines (sym c.1) (record {
       machines = _;
       before = k.before;
       tied = put_tied w k.machines k.before k.tied (op_of_put w p key action) d.0 d.1 os.0 os.1 open_yet.0 refl (ap (λ (o : Option (List Op)). length (unwrap_or o []) + 1) os.1);
     })
-changes_keep w new (event.Close p l) x k q c =
+machines_on w new (event.Close p l) x k q c =
     let d = at_desk_none _ _ q in
     let known = unrefused (nat_lt w.config.producers p) _ _ d.2 in
     let le = ltb-false w.config.producers p known.0 in
     let n = (k.tied.lanes.works l d.0 d.1).senders in
     let s : (z : Sender) × (slice_get d.0.senders p ≡ Some z) = there_at d.0.senders p (omega (arith, le, n)) in
-    subst IsWorld (sym c.1) (record { machines = _; before = k.before; tied = close_tied w k.machines k.before k.tied l p d.0 d.1 s.0 s.1 })
-changes_keep w new (event.Tick l) x k q c =
+    subst HasMachines (sym c.1) (record { machines = _; before = k.before; tied = close_tied w k.machines k.before k.tied l p d.0 d.1 s.0 s.1 })
+machines_on w new (event.Tick l) x k q c =
     let d = at_desk_none _ _ q in
-    subst IsWorld (sym c.1) (record { machines = k.machines; before = k.before; tied = control_tied w k.machines k.before k.tied l w.config.producers body.Tick d.0 d.1 refl refl })
-changes_keep w new (event.Flush l) x k q c =
+    subst HasMachines (sym c.1) (record { machines = k.machines; before = k.before; tied = control_tied w k.machines k.before k.tied l w.config.producers body.Tick d.0 d.1 refl refl })
+machines_on w new (event.Flush l) x k q c =
     let d = at_desk_none _ _ q in
-    subst IsWorld (sym c.1) (record { machines = k.machines; before = k.before; tied = control_tied w k.machines k.before k.tied l w.config.producers body.Flush d.0 d.1 refl refl })
-changes_keep w new (event.Take l) x k q c =
+    subst HasMachines (sym c.1) (record { machines = k.machines; before = k.before; tied = control_tied w k.machines k.before k.tied l w.config.producers body.Flush d.0 d.1 refl refl })
+machines_on w new (event.Take l) x k q c =
     let d = at_desk_none _ _ q in
     let f = front_is d.0.lane d.0.queue d.2 in
     let u = take_tied w k.machines k.before k.tied l d.0 d.1 f.0 f.1 f.2 in
-    subst IsWorld (sym c.1) (record { machines = u.0; before = k.before; tied = u.1 })
-changes_keep w new (event.Send l) x k q c =
+    subst HasMachines (sym c.1) (record { machines = u.0; before = k.before; tied = u.1 })
+machines_on w new (event.Send l) x k q c =
     let d = at_desk_none _ _ q in
     let b = some_is (lane.next_batch d.0.lane) (not_false _ (unrefused (not (is_some (lane.next_batch d.0.lane))) _ _ d.2).0) in
-    subst IsWorld (sym c.1) (record { machines = _; before = k.before; tied = send_tied w k.machines k.before k.tied l d.0 d.1 b.0 b.1 })
-changes_keep w new (event.Run request item choice) x k q c =
+    subst HasMachines (sym c.1) (record { machines = _; before = k.before; tied = send_tied w k.machines k.before k.tied l d.0 d.1 b.0 b.1 })
+machines_on w new (event.Run request item choice) x k q c =
     let found = unrefused (not (is_some (write_at w request item))) _ _ q in
     let may = unrefused (not (may_choose choice)) _ _ found.1 in
-    subst IsWorld (sym c.after) (record {
+    subst HasMachines (sym c.after) (record {
       machines = _;
       before = k.before;
       tied = run_tied w k.machines k.before k.tied (request - 1) (item - 1) c.sent (at_number w.sent request c.sent c.was_sent) c.its_item (at_number c.sent.items item c.its_item c.stands)
           c.op c.its_op choice (may_choose_is choice (not_false _ may.0)) new.index new.kept c.effect c.names c.before;
     })
-changes_keep w new (event.Reply request picks) x k q c =
+machines_on w new (event.Reply request picks) x k q c =
     answers_keep w new k request c.0 (Items c.1) x c.2 (flying_is w request c.0 _ _ c.2 q).0 c.4
     (λ m. entries_say w k.machines k.before k.tied (request - 1) c.0 picks c.1 (at_number w.sent request c.0 c.2) c.3)
-changes_keep w new (event.Whole request status) x k q c =
+machines_on w new (event.Whole request status) x k q c =
     let f = flying_is w request c.0 _ _ c.1 q in
     answers_keep w new k request c.0 (Whole status) x c.1 f.0 c.2 (not_ok status (not_false _ (unrefused (not (is_whole status)) _ _ f.1).0))
-changes_keep w new (event.Lost request) x k q c =
+machines_on w new (event.Lost request) x k q c =
     answers_keep w new k request c.0 Lost x c.1 (flying_is w request c.0 _ _ c.1 q).0 c.2 tt
-changes_keep w new (event.Restart epoch) x k q c =
+machines_on w new (event.Restart epoch) x k q c =
     let up = not_false _ (unrefused (not (is_above w epoch)) _ _ q).0 in
-    subst IsWorld (sym c.1) (restart_world w k epoch (ltb-true w.config.epoch epoch (and_left (nat_lt w.config.epoch epoch) (nat_le epoch 4194303) up)))
+    subst HasMachines (sym c.1) (restart_machines w k epoch (ltb-true w.config.epoch epoch (and_left (nat_lt w.config.epoch epoch) (nat_le epoch 4194303) up)))
+
+-- ---- what else an event keeps
+
+same_start : (w new : World) (e : Event) (x : StepAnswer) → Changes w e x new → (new.opening ≡ w.opening) × (new.index.states ≡ w.index.states)
+same_start w new (event.Put p key action) x c = alike c.1
+same_start w new (event.Close p l) x c = alike c.1
+same_start w new (event.Tick l) x c = alike c.1
+same_start w new (event.Flush l) x c = alike c.1
+same_start w new (event.Take l) x c = alike c.1
+same_start w new (event.Send l) x c = alike c.1
+same_start w new (event.Run request item choice) x c = (ap (λ (z : World). z.opening) c.after, c.effect.states)
+same_start w new (event.Reply request picks) x c = alike c.4.after
+same_start w new (event.Whole request status) x c = alike c.2.after
+same_start w new (event.Lost request) x c = alike c.2.after
+same_start w new (event.Restart epoch) x c = alike c.1
+
+-- a request that is answered keeps its runs
+answer_stated : (w : World) (request : ℕ) (s : Sent) (a : Answer) → StatesVersions w → StatesVersions (after_answer w request s a)
+answer_stated w request s a all =
+    stated_same (runs_in w.sent) (runs_in (update (request - 1) (with_answer a) w.sent))
+    (λ r p. seen_unmoved (λ o. runs_of (option_and_then (λ (z : Sent). slice_get z.items p) o)) (with_answer a) (request - 1) w.sent r (λ z. refl)) all
+
+send_stated : (w : World) (l : ℕ) → StatesVersions w → StatesVersions (after_send w l)
+send_stated w l all = by (desk_at w l)
+  where
+    by : (o : Option Desk) → AreStated (runs_in (w.sent ++ sent_by w.config.epoch l o))
+    by None = stated_same (runs_in w.sent) (runs_in (w.sent ++ [])) (λ r p. ap (λ ss. runs_in ss r p) (append-nil w.sent)) all
+    by (Some d) = stated_same (runs_in w.sent) (runs_in (w.sent ++ request_of w.config.epoch l d ∷ []))
+        (λ r p. pushed_at (λ o. runs_of (option_and_then (λ (s : Sent). slice_get s.items p) o)) w.sent (request_of w.config.epoch l d) r refl (none_sent (lane.next_batch d.lane) p)) all
+
+stated_on : (w new : World) (e : Event) (x : StepAnswer) → refusal w e ≡ None → w.index.states ≡ true → Changes w e x new → StatesVersions w → StatesVersions new
+stated_on w new (event.Put p key action) x q on c all = subst StatesVersions (sym c.1) all
+stated_on w new (event.Close p l) x q on c all = subst StatesVersions (sym c.1) all
+stated_on w new (event.Tick l) x q on c all = subst StatesVersions (sym c.1) all
+stated_on w new (event.Flush l) x q on c all = subst StatesVersions (sym c.1) all
+stated_on w new (event.Take l) x q on c all = subst StatesVersions (sym c.1) all
+stated_on w new (event.Send l) x q on c all = subst StatesVersions (sym c.1) (send_stated w l all)
+stated_on w new (event.Run request item choice) x q on c all =
+    let may = unrefused (not (may_choose choice)) _ _ (unrefused (not (is_some (write_at w request item))) _ _ q).1 in
+    subst StatesVersions (sym c.after)
+    (stated_more w.sent (request - 1) (item - 1) c.sent c.its_item (outcome_of w (write_for c.op c.its_item.version) choice)
+    (at_number w.sent request c.sent c.was_sent) (at_number c.sent.items item c.its_item c.stands)
+    (states_one w.index (write_for c.op c.its_item.version) choice (may_choose_is choice (not_false _ may.0)) on) all)
+stated_on w new (event.Reply request picks) x q on c all = subst StatesVersions (sym c.4.after) (answer_stated w request c.0 (Items c.1) all)
+stated_on w new (event.Whole request status) x q on c all = subst StatesVersions (sym c.2.after) (answer_stated w request c.0 (Whole status) all)
+stated_on w new (event.Lost request) x q on c all = subst StatesVersions (sym c.2.after) (answer_stated w request c.0 Lost all)
+stated_on w new (event.Restart epoch) x q on c all = subst StatesVersions (sym c.1) all
 
 pub steps_keep_tied : StepsKeepTied
 steps_keep_tied w new e x k s = by (refusal w e) refl s
   where
     by : (r : Option Refusal) → refusal w e ≡ r → StepsBy r w e x new → IsWorld new
     by (Some r) q c = subst IsWorld (sym c.1) k
-    by None q c = changes_keep w new e x k q c
+    by None q c =
+        let start = same_start w new e x c in
+        let opened = ap (λ (i : index.State). i.states) start.0 in
+        record {
+          has = machines_on w new e x k.has q c;
+          states = start.1 ∙ k.states ∙ sym opened;
+          stated = λ on. let before = sym opened ∙ on in stated_on w new e x q (k.states ∙ before) c (k.stated before);
+        }

@@ -18,7 +18,7 @@ use Rattle.relay_delivery.proofs.Accounts.{act_together}
 use Rattle.relay_core.specs.State as lane
 use Rattle.relay_core.specs.State.{config_of}
 use Rattle.relay_core.specs.Ties.{ops_of}
-use Rattle.relay_world.specs.State.{Desk, World, ended_of, desk_at, lane_of, has_closed, is_closed, taken_of}
+use Rattle.relay_world.specs.State.{Desk, World, opening_version, ended_of, desk_at, lane_of, has_closed, is_closed, taken_of}
 use Rattle.relay_world.specs.Changes.{front_taken, took_front, at_lane}
 use Rattle.relay_world.specs.Ties.{puts_of, IsLaneOf, IsTied}
 use Rattle.relay_world.proofs.Carried.{TakesMore, keeps}
@@ -53,7 +53,7 @@ module _ (w : World) (t : Together) (b : ℕ → ℕ) (i : IsTied w t b) (l : �
   closed_after p = i.lanes.closed p ∙ sym (any_unmoved (has_closed p) took_front l w.desks (λ x. closed_front p x.queue x))
 
   -- the machines of the world afterwards, by those of its desk
-  taken_tied : (u : Together) → CameAboutTogether (config_of w.config) (lane_of w) (ended_of w) u → u.lanes.accepted ≡ t.lanes.accepted → u.lanes.closed ≡ t.lanes.closed
+  taken_tied : (u : Together) → CameAboutTogether (opening_version w) (config_of w.config) (lane_of w) (ended_of w) u → u.lanes.accepted ≡ t.lanes.accepted → u.lanes.closed ≡ t.lanes.closed
       → IsDeskOf w.config (b l) (Some (front_taken (m ∷ ms) d)) (u.lanes.queue l) (u.lanes.lane l)
       → ((n : ℕ) → n ≢ l → (u.lanes.queue n ≡ t.lanes.queue n) × (u.lanes.lane n ≡ t.lanes.lane n)) → ((n : ℕ) → SameIndex (u.lanes.lane n).outside (t.lanes.lane n).outside)
       → u.sent ≡ t.sent → u.origins ≡ t.origins → u.runs ≡ t.runs → IsTied new u b
@@ -102,9 +102,9 @@ module _ (w : World) (t : Together) (b : ℕ → ℕ) (i : IsTied w t b) (l : �
     abbrev fetched_now : Together
     fetched_now = with_lanes (after_fetch g l t.lanes (o ∷ puts_of ms))
 
-    came : CameAboutTogether g (lane_of w) (ended_of w) fetched_now
-    came = subst (λ q. CameAboutTogether g (lane_of w) (ended_of w) (with_lanes (after_fetch g l t.lanes q))) queue_is
-        (act_together g (lane_of w) (ended_of w) t (Plain (Fetches l)) i.came_about (tt, tt) tt)
+    came : CameAboutTogether (opening_version w) g (lane_of w) (ended_of w) fetched_now
+    came = subst (λ q. CameAboutTogether (opening_version w) g (lane_of w) (ended_of w) (with_lanes (after_fetch g l t.lanes q))) queue_is
+        (act_together (opening_version w) g (lane_of w) (ended_of w) t (Plain (Fetches l)) i.came_about (tt, tt) tt)
 
     left : Desk
     left = record { queue = ms; senders = d.senders; taken = d.taken ++ o ∷ []; lane = lane.after_op d.lane o }

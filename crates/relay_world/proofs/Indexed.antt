@@ -11,26 +11,26 @@ use Rattle.relay_delivery.specs.Incarnations.{attributed_together}
 use Rattle.relay_delivery.proofs.Lives.{facts_of_life}
 use Rattle.relay_delivery.proofs.Naming.{names_kept}
 use Rattle.relay_core.specs.State.{config_of}
-use Rattle.relay_world.specs.State.{Desk, Sent, World, lane_of, ended_of}
+use Rattle.relay_world.specs.State.{Desk, Sent, World, opening_version, lane_of, ended_of}
 use Rattle.relay_world.specs.Ties.{IsIndexOf}
 
 -- the world with other desks, accepted lists and requests, over the index that it has
 abbrev pub over_same : World → List Desk → List (List Op) → List Sent → World
-over_same w desks accepted sent = record { config = w.config; desks = desks; accepted = accepted; ended = w.ended; sent = sent; index = w.index; kept = w.kept }
+over_same w desks accepted sent = record { opening = w.opening; config = w.config; desks = desks; accepted = accepted; ended = w.ended; sent = sent; index = w.index; kept = w.kept }
 
 pub record SameIndex (new old : Outside) : Type 0 where
   pub stored : new.stored ≡ old.stored
   pub before : new.before ≡ old.before
   pub applied : new.applied ≡ old.applied
 
-module _ (w : World) (desks : List Desk) (accepted : List (List Op)) (sent : List Sent) (t u : Together) (i : IsIndexOf w t) (came : CameAboutTogether (config_of w.config) (lane_of w) (ended_of w) t)
+module _ (w : World) (desks : List Desk) (accepted : List (List Op)) (sent : List Sent) (t u : Together) (i : IsIndexOf w t) (came : CameAboutTogether (opening_version w) (config_of w.config) (lane_of w) (ended_of w) t)
     (same : (l : ℕ) → SameIndex (u.lanes.lane l).outside (t.lanes.lane l).outside)
     (more : (l : ℕ) → (os : List Op) × ((u.lanes.lane l).taken ≡ (t.lanes.lane l).taken ++ os)) where
   abbrev g : Config
   g = config_of w.config
 
   attributed_kept : (k : Document) → attributed_together g (lane_of w) (ended_of w) u k ≡ attributed_together g (lane_of w) (ended_of w) t k
-  attributed_kept k = names_kept g (lane_of w) (ended_of w) t u (facts_of_life g (lane_of w) (ended_of w) t came) more (λ l. (same l).applied) k
+  attributed_kept k = names_kept (opening_version w) g (lane_of w) (ended_of w) t u (facts_of_life (opening_version w) g (lane_of w) (ended_of w) t came) more (λ l. (same l).applied) k
 
   pub index_kept : IsIndexOf (over_same w desks accepted sent) u
   index_kept = record {

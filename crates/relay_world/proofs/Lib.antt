@@ -4,6 +4,7 @@ pub mod Named
 pub mod Ran
 pub mod Holding
 pub mod Starting
+pub mod Stated
 pub mod Running
 pub mod Entries
 pub mod Epochs

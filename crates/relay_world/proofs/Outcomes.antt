@@ -29,7 +29,7 @@ use Rattle.relay_delivery.specs.Restarts.{Incarnation, with_running}
 use Rattle.relay_delivery.specs.Incarnations.{op_dealt, ops_over}
 use Rattle.relay_world.proofs.Past.{running_seen}
 use Rattle.relay_core.specs.State.{config_of}
-use Rattle.relay_world.specs.State.{Item, Named, Sent, World, ended_of, incarnations, desk_at, lane_of, op_with, writes_of, names_at, before_at, taken_of}
+use Rattle.relay_world.specs.State.{Item, Named, Sent, World, opening_version, ended_of, incarnations, desk_at, lane_of, op_with, writes_of, names_at, before_at, taken_of}
 use Rattle.relay_world.specs.Headline.{request_of}
 use Rattle.relay_world.specs.Changes.{with_outcome, outcome_of}
 use Rattle.relay_world.specs.Ties.{versions_of, IsOriginOf, core_of, AreLanes, AreRequests, IsIndexOf, IsTied}
@@ -113,10 +113,10 @@ module _ (w : World) (t : Together) (b : ℕ → ℕ) (i : IsTied w t b) (k n : 
   ran z = record z { items = update n (with_outcome o) z.items }
 
   abbrev new : World
-  new = record { config = w.config; desks = w.desks; accepted = w.accepted; ended = w.ended; sent = update k ran w.sent; index = new_index; kept = new_kept }
+  new = record { opening = w.opening; config = w.config; desks = w.desks; accepted = w.accepted; ended = w.ended; sent = update k ran w.sent; index = new_index; kept = new_kept }
 
-  facts : TogetherFacts g (lane_of w) (past_of (ended_of w) g) t
-  facts = facts_together g (lane_of w) (ended_of w) t i.came_about
+  facts : TogetherFacts g (lane_of w) (past_of (opening_version w) (ended_of w)) t
+  facts = facts_together (opening_version w) g (lane_of w) (ended_of w) t i.came_about
 
   -- ---- the item
 
@@ -142,7 +142,7 @@ module _ (w : World) (t : Together) (b : ℕ → ℕ) (i : IsTied w t b) (k n : 
   was_sent = record { number = from.number; request = request_of w s; sent = own_request; is_in = at-Mem (writes_of w s) n x its_write }
 
   its_lane : lane_of w (document_of op.key) ≡ s.lane
-  its_lane = sent_lane g (lane_of w) (past_of (ended_of w) g) t.lanes facts.lanes s.lane x was_sent
+  its_lane = sent_lane g (lane_of w) (past_of (opening_version w) (ended_of w)) t.lanes facts.lanes s.lane x was_sent
 
   of_outside : IsRunOfOutside w.index x (done_of w.index x c) new_index
   of_outside = run_is_of_outside w.index new_index x c (done_of w.index x c) may_choose (record { item_of = refl; effect = effect })
@@ -335,7 +335,7 @@ module _ (w : World) (t : Together) (b : ℕ → ℕ) (i : IsTied w t b) (k n : 
     pub run_tied : IsTied new u b
     run_tied = record {
       few = i.few;
-      came_about = act_together g (lane_of w) (ended_of w) t (RunsAt k n o from) i.came_about may tt;
+      came_about = act_together (opening_version w) g (lane_of w) (ended_of w) t (RunsAt k n o from) i.came_about may tt;
       lanes = lanes_now;
       requests = requests_now;
       index = index_now;

@@ -10,7 +10,7 @@ use Rattle.relay_delivery.specs.Together.{Together}
 use Rattle.relay_delivery.specs.Restarts.{incarnation_of, with_running}
 use Rattle.relay_delivery.proofs.Lives.{AreAbove, facts_of_life}
 use Rattle.relay_core.specs.State.{config_of}
-use Rattle.relay_world.specs.State.{Past, World, ended_of, running, incarnation, incarnations, incarnations_of, lane_of}
+use Rattle.relay_world.specs.State.{Past, World, opening_version, ended_of, running, incarnation, incarnations, incarnations_of, lane_of}
 use Rattle.relay_world.specs.Headline.{request_of, AreRising}
 use Rattle.relay_world.specs.Ties.{IsTied}
 use Rattle.relay_world.proofs.Carried.{taken_at}
@@ -44,4 +44,4 @@ rise c (p ∷ ps) last top e a = (above, rise c ps last top e a.2)
         (Mem-push_cases r.0 ps last r.1)
 
 pub epochs_rise : (w : World) (t : Together) (n : ℕ → ℕ) → IsTied w t n → AreRising (epochs_of (incarnations w))
-epochs_rise w t n i = rise w.config w.ended (running w) (config_of w.config) refl (facts_of_life (config_of w.config) (lane_of w) (ended_of w) t i.came_about).above
+epochs_rise w t n i = rise w.config w.ended (running w) (config_of w.config) refl (facts_of_life (opening_version w) (config_of w.config) (lane_of w) (ended_of w) t i.came_about).above

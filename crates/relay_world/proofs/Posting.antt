@@ -16,7 +16,7 @@ use Rattle.relay_delivery.proofs.Accounts.{act_together}
 use Rattle.relay_core.specs.State.{config_of}
 use Rattle.relay_core.specs.Ties.{ops_of}
 use Rattle.relay_world.specs.declared.sender.Sender.{Sender}
-use Rattle.relay_world.specs.State.{Desk, World, ended_of, desk_at, lane_of, accepted_from, has_closed, is_closed}
+use Rattle.relay_world.specs.State.{Desk, World, opening_version, ended_of, desk_at, lane_of, accepted_from, has_closed, is_closed}
 use Rattle.relay_world.specs.Changes.{is_done_mail, after_mail, mail_of, after_post, at_lane, after_put}
 use Rattle.relay_world.specs.Ties.{puts_of, IsLaneOf, IsTied}
 use Rattle.relay_world.proofs.Carried.{TakesMore, keeps}
@@ -68,7 +68,7 @@ module _ (w : World) (t : Together) (n : ℕ → ℕ) (i : IsTied w t n) (l s : 
 
   -- the machines of a world to which a message was posted, with the operation of a put at the back
   -- of its queue and a Done has closed its sender
-  pub posted_tied : (accepted : List (List Op)) (u : Together) → length accepted ≡ w.config.producers → CameAboutTogether (config_of w.config) (lane_of w) (ended_of w) u
+  pub posted_tied : (accepted : List (List Op)) (u : Together) → length accepted ≡ w.config.producers → CameAboutTogether (opening_version w) (config_of w.config) (lane_of w) (ended_of w) u
       → ((p : ℕ) → u.lanes.accepted p ≡ accepted_from (over_same w desks_now accepted w.sent) p)
       → ((p : ℕ) → u.lanes.closed p ≡ is_closed (over_same w desks_now accepted w.sent) p)
       → u.lanes.queue l ≡ t.lanes.queue l ++ ops_of b → ((m : ℕ) → m ≢ l → u.lanes.queue m ≡ t.lanes.queue m) → u.lanes.lane ≡ t.lanes.lane
@@ -119,7 +119,7 @@ module _ (w : World) (t : Together) (n : ℕ → ℕ) (i : IsTied w t n) (l s : 
   pub close_tied : IsTied (at_lane l (after_post s body.Done) w) after_close n
   close_tied =
       posted_tied w t n i l s body.Done d there w.accepted after_close i.lanes.producers
-      (act_together (config_of w.config) (lane_of w) (ended_of w) t (Plain (Closes s)) i.came_about (tt, tt) tt)
+      (act_together (opening_version w) (config_of w.config) (lane_of w) (ended_of w) t (Plain (Closes s)) i.came_about (tt, tt) tt)
       i.lanes.accepted closed_after (sym (append-nil (t.lanes.queue l))) (λ m ne. refl) refl refl refl refl
 
 -- ---- a put
@@ -151,7 +151,7 @@ module _ (w : World) (t : Together) (n : ℕ → ℕ) (i : IsTied w t n) (o : Op
   put_tied =
       posted_tied w t n i l o.producer (body.Put o) d there (update o.producer (λ xs. xs ++ o ∷ []) w.accepted) after
       (length-update o.producer (λ xs. xs ++ o ∷ []) w.accepted ∙ i.lanes.producers)
-      (act_together (config_of w.config) (lane_of w) (ended_of w) t (Plain (Puts o)) i.came_about
+      (act_together (opening_version w) (config_of w.config) (lane_of w) (ended_of w) t (Plain (Puts o)) i.came_about
       (tt, record { epoch = epoch; open_yet = i.lanes.closed o.producer ∙ open_yet; number = number ∙ ap (λ xs. length xs + 1) (sym (i.lanes.accepted o.producer ∙ accepted_before)) }) tt)
       accepted_after
       (λ p. i.lanes.closed p ∙ sym (any_unmoved (has_closed p) (after_post o.producer (body.Put o)) l w.desks (λ x. closed_posted p o.producer (body.Put o) x refl)))

@@ -29,7 +29,7 @@ use Rattle.relay_core.specs.Rule as rule
 use Rattle.relay_core.proofs.Tying.{chosen_sub}
 use Rattle.relay_core.proofs.Forming.{items_of_operations}
 use Rattle.relay_core.proofs.Batched.{next_keeps}
-use Rattle.relay_world.specs.State.{Desk, Item, Sent, World, ended_of, incarnations, desk_at, lane_of, op_with, has_closed}
+use Rattle.relay_world.specs.State.{Desk, Item, Sent, World, opening_version, ended_of, incarnations, desk_at, lane_of, op_with, has_closed}
 use Rattle.relay_world.specs.Headline as headline
 use Rattle.relay_world.specs.Headline.{runs_of}
 use Rattle.relay_world.specs.Changes.{item_of, items_of, sent_request, request_of, sent_by, after_send}
@@ -56,7 +56,7 @@ own_chosen n [] h m = elim m [ ]
 own_chosen n (e ∷ es) h (inl same) = inl (ap (held_on n) same)
 own_chosen n (e ∷ es) h (inr m) = inr (own_chosen n es h m)
 
-none_run : (is : List BatchItem) (place : ℕ) → runs_of (slice_get (map item_of is) place) ≡ []
+pub none_run : (is : List BatchItem) (place : ℕ) → runs_of (slice_get (map item_of is) place) ≡ []
 none_run [] place = refl
 none_run (x ∷ is) zero = refl
 none_run (x ∷ is) (suc place) = none_run is place
@@ -92,10 +92,10 @@ module _ (w : World) (t : Together) (b : ℕ → ℕ) (i : IsTied w t b) (l : �
   is_new = ap (λ o. over_same w desks_now w.accepted (w.sent ++ sent_by w.config.epoch l o)) there
 
   abbrev past : ℕ → Past
-  past = past_of (ended_of w) g
+  past = past_of (opening_version w) (ended_of w)
 
   facts : CoreFacts g (past l) (t.lanes.lane l)
-  facts = (facts_together g (lane_of w) (ended_of w) t i.came_about).lanes.lane l
+  facts = (facts_together (opening_version w) g (lane_of w) (ended_of w) t i.came_about).lanes.lane l
 
   desk_is : IsDeskOf w.config (b l) (Some d) (t.lanes.queue l) (t.lanes.lane l)
   desk_is = desk_there w t b i.lanes l d there
@@ -161,8 +161,8 @@ module _ (w : World) (t : Together) (b : ℕ → ℕ) (i : IsTied w t b) (l : �
   numbered_found : (h : Held) → Mem h chosen → op_with w l h.version ≡ Some h.op
   unfolding of_these
   numbered_found h m =
-      let life = facts_of_life g (lane_of w) (ended_of w) t i.came_about in
-      let dealt = op_of_write (with_running (ended_of w) g t) (next g) (all_above g (lane_of w) (ended_of w) t life) l (write_of h) (of_these h m) in
+      let life = facts_of_life (opening_version w) g (lane_of w) (ended_of w) t i.came_about in
+      let dealt = op_of_write (with_running (ended_of w) g t) (next g) (all_above (opening_version w) g (lane_of w) (ended_of w) t life) l (write_of h) (of_these h m) in
       one_listed (op_with w l h.version) h.op
       (sym (dealt_among w.config (incarnations w) l h.version) ∙ ap (λ ps. op_dealt ps l h.version) (sym (running_seen w t b i)) ∙ dealt)
 
@@ -183,7 +183,7 @@ module _ (w : World) (t : Together) (b : ℕ → ℕ) (i : IsTied w t b) (l : �
       ∙ ap (λ ws. record { writes = ws; answer = Unanswered }) (writes_are w new_sent ∙ ap (writes_by (op_with w l)) versions_are ∙ writes_in (op_with w l) own chosen_found ∙ sym (sent_on (b l) entries))
 
   as_long : length t.origins ≡ length w.sent
-  as_long = (facts_together g (lane_of w) (ended_of w) t i.came_about).as_long ∙ ap length i.requests.sent ∙ length-map w.sent (headline.request_of w)
+  as_long = (facts_together (opening_version w) g (lane_of w) (ended_of w) t i.came_about).as_long ∙ ap length i.requests.sent ∙ length-map w.sent (headline.request_of w)
 
   requests_now : AreRequests new u b
   requests_now =
@@ -225,7 +225,7 @@ module _ (w : World) (t : Together) (b : ℕ → ℕ) (i : IsTied w t b) (l : �
   pub send_tied : IsTied (after_send w l) u b
   send_tied = subst (λ x. IsTied x u b) (sym is_new) (record {
     few = i.few;
-    came_about = act_together g (lane_of w) (ended_of w) t (SendsFrom l chosen) i.came_about may tt;
+    came_about = act_together (opening_version w) g (lane_of w) (ended_of w) t (SendsFrom l chosen) i.came_about may tt;
     lanes = lanes_now;
     requests = requests_now;
     index = index_kept w desks_now w.accepted (w.sent ++ new_sent ∷ []) t u i.index i.came_about same_index (takes_more w new t u b b i.lanes lanes_now more_none);

@@ -18,10 +18,10 @@ use Rattle.relay_delivery.proofs.Accounts.{restart_together, epochs_are_above}
 use Rattle.relay_delivery.proofs.Naming.{restarts_keep_names}
 use Rattle.relay_delivery.proofs.Numbered.{fresh_on}
 use Rattle.relay_core.specs.State.{config_of}
-use Rattle.relay_world.specs.State.{Desk, World, fresh_desk, has_closed, lane_of, ended_of, running, incarnation, incarnations_of, taken_of}
+use Rattle.relay_world.specs.State.{Desk, World, opening_version, fresh_desk, has_closed, lane_of, ended_of, running, incarnation, incarnations_of, taken_of}
 use Rattle.relay_world.specs.Headline.{request_of}
 use Rattle.relay_world.specs.Changes.{in_new_epoch, after_restart}
-use Rattle.relay_world.specs.Ties.{queue_of, core_of, versions_of, IsLaneOf, IsTied, IsWorld}
+use Rattle.relay_world.specs.Ties.{queue_of, core_of, versions_of, IsLaneOf, IsTied, HasMachines}
 use Rattle.relay_world.proofs.Starting.{at-all}
 use Rattle.relay_world.proofs.Beginning.{none_at_all, open_at_all, none_passes, at_fresh, length-same}
 use Rattle.relay_world.proofs.Carried.{Keeps, keeps_restart, found_kept, request_kept, map-kept}
@@ -48,9 +48,9 @@ module _ (w : World) (t : Together) (b : ℕ → ℕ) (i : IsTied w t b) (epoch 
   at_core l None f = fresh_on (config_of c) (t.lanes.lane l)
   at_core l (Some d) f = subst (λ x. delivery.IsOf (numbered_on (counts l) (core_of (config_of c) (Some x))) (restarted_core (t.lanes.lane l))) (sym (f d refl)) (fresh_on (config_of c) (t.lanes.lane l))
 
-  came : CameAboutTogether (config_of c) (lane_of w) (incarnations_of w) u
-  came = subst (λ is. CameAboutTogether (config_of c) (lane_of w) is u) (running_seen w t b i)
-      (restart_together g (config_of c) (lane_of w) (ended_of w) t i.came_about
+  came : CameAboutTogether (opening_version w) (config_of c) (lane_of w) (incarnations_of w) u
+  came = subst (λ is. CameAboutTogether (opening_version w) (config_of c) (lane_of w) is u) (running_seen w t b i)
+      (restart_together (opening_version w) g (config_of c) (lane_of w) (ended_of w) t i.came_about
       (epochs_are_above w.config.epoch epoch w.config.deal w.config.deal w.config.attempts w.config.attempts w.config.limits.count w.config.limits.count up i.few))
 
   kept : Keeps w new
@@ -92,13 +92,13 @@ module _ (w : World) (t : Together) (b : ℕ → ℕ) (i : IsTied w t b) (epoch 
       shows = record { versions = i.index.shows.versions; lists = i.index.shows.lists };
       names = λ k.
           (λ j. map name_of (attributed_together (config_of c) (lane_of w) (sym (running_seen w t b i) j) u k))
-          ∙ ap (map name_of) (restarts_keep_names g (config_of c) (lane_of w) (ended_of w) t k i.came_about)
+          ∙ ap (map name_of) (restarts_keep_names (opening_version w) g (config_of c) (lane_of w) (ended_of w) t k i.came_about)
           ∙ i.index.names k;
     };
   }
 
-pub restart_world : (w : World) → IsWorld w → (epoch : ℕ) → w.config.epoch < epoch → IsWorld (after_restart w epoch)
-restart_world w k epoch up = record {
+pub restart_machines : (w : World) → HasMachines w → (epoch : ℕ) → w.config.epoch < epoch → HasMachines (after_restart w epoch)
+restart_machines w k epoch up = record {
   machines = restarts.after_restart k.machines;
   before = λ l. length (k.machines.lanes.lane l).outside.requests;
   tied = restart_tied w k.machines k.before k.tied epoch up;

@@ -54,11 +54,12 @@ valid_in c epoch within v =
 pub restarts_so : (w : World) (epoch sent : ℕ) (c : RelayConfig) (desks : List Desk) (accepted taken : List (List Op)) (ended : List Past)
     → c ≡ in_new_epoch w.config epoch → desks ≡ replicate c.lanes (fresh_desk c) → accepted ≡ replicate c.producers [] → taken ≡ map (λ (d : Desk). d.taken) w.desks → sent ≡ length w.sent
     → ended ≡ w.ended ++ record { epoch = w.config.epoch; accepted = w.accepted; taken = taken; sent = sent } ∷ []
-    → record { config = c; desks = desks; accepted = accepted; ended = ended; sent = w.sent; index = w.index; kept = w.kept } ≡ after_restart w epoch
+    → record { opening = w.opening; config = c; desks = desks; accepted = accepted; ended = ended; sent = w.sent; index = w.index; kept = w.kept } ≡ after_restart w epoch
 restarts_so w epoch sent c desks accepted taken ended new ds os ts n es =
     let all : ended ≡ w.ended ++ record { epoch = w.config.epoch; accepted = w.accepted; taken = map (λ (d : Desk). d.taken) w.desks; sent = length w.sent } ∷ [] =
     es ∙ (λ j. w.ended ++ record { epoch = w.config.epoch; accepted = w.accepted; taken = ts j; sent = n j } ∷ []) in
     λ j. record {
+      opening = w.opening;
       config = new j;
       desks = (ds ∙ (λ i. replicate (new i).lanes (fresh_desk (new i)))) j;
       accepted = (os ∙ (λ i. replicate (new i).producers [])) j;

@@ -175,6 +175,7 @@ in_new_epoch c epoch = record c { epoch = epoch }
 -- incarnations.
 abbrev pub after_restart : World → ℕ → World
 after_restart w epoch = record {
+  opening = w.opening;
   config = in_new_epoch w.config epoch;
   desks = replicate w.config.lanes (fresh_desk (in_new_epoch w.config epoch));
   accepted = replicate w.config.producers [];

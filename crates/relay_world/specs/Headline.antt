@@ -1,16 +1,16 @@
 -- What is promised of the world after every list of events: exactly accounted delivery.
-use Rattle.std.specs.Prelude.{◌≡◌, ◌⊎◌, ℕ, ◌+◌, ◌<◌, ◌≤◌, nat_lt, List, [], ◌∷◌, ◌++◌, Option, Some, None, option_and_then, slice_get, take, length, true, ◌==◌, ◌&&◌, map, filter, if◌then◌else◌}
+use Rattle.std.specs.Prelude.{◌≡◌, ◌≢◌, ◌⊎◌, ℕ, ◌+◌, ◌<◌, ◌≤◌, nat_lt, List, [], ◌∷◌, ◌++◌, Option, Some, None, option_and_then, slice_get, take, length, true, ◌==◌, ◌&&◌, map, filter, if◌then◌else◌}
 use Rattle.relay_action.specs.declared.operation.Op.{Op}
 use Rattle.relay_results.specs.Words.{Mem, AllDistinct}
 use Rattle.relay_results.specs.Documents.{Document, document_of, name_of}
-use Rattle.relay_results.specs.Outside.{Request, RunOutcome, Ran, Outside}
+use Rattle.relay_results.specs.Outside.{Request, RunOutcome, Ran, stored_in, Outside}
 use Rattle.relay_index.specs.States as index
 use Rattle.relay_delivery.specs.Attribution.{IsAttribution, IsInProducerOrder, AreByEpoch, is_in}
 use Rattle.relay_delivery.specs.Incarnations.{accepted_over, accepted_in}
 use Rattle.relay_delivery.specs.Causes.{Terms, IsAssignment, IsTrueCause}
 use Rattle.relay_delivery.specs.Machine.{Report, first_in}
 use Rattle.relay_delivery.specs.Delivery.{names_of}
-use Rattle.relay_world.specs.State.{Item, Sent, Past, World, incarnations, incarnations_of, lane_of, taken_ops, accepted_from, applied_writes, names_at, before_at, reports, writes_of, is_closed, is_finished}
+use Rattle.relay_world.specs.State.{Item, Sent, Past, World, opening_version, IsBelow, incarnations, incarnations_of, lane_of, taken_ops, accepted_from, applied_writes, names_at, before_at, reports, writes_of, is_closed, is_finished}
 
 -- ---- outside the lanes
 
@@ -64,12 +64,44 @@ pub record IsTrueReport (w : World) (log : List Ran) (versions : Op → Option �
   pub document : r.document ≡ document_of op.key
   pub cause : IsTrueCause (terms_at w l) (outside_of w log) op (versions op) r.cause
 
+-- ---- which versions the index may have
+
+-- the epoch of the first incarnation
+abbrev pub epoch_of_first : List Past → ℕ → ℕ
+epoch_of_first [] epoch = epoch
+epoch_of_first (p ∷ ps) epoch = p.epoch
+
+abbrev pub first_epoch : World → ℕ
+first_epoch w = epoch_of_first w.ended w.config.epoch
+
+-- each version that the index had at the start is below the first one that a lane assigned
+abbrev pub StartsBelow : World → Type 0
+StartsBelow w = IsBelow (first_in (first_epoch w)) w.opening
+
+-- none of them is one that a lane assigns in the current epoch
+abbrev pub StartsBeside : World → Type 0
+StartsBeside w =
+    (k : Document) (version place : ℕ) → opening_version w k ≡ Some version → place < w.config.deal →
+    version ≢ first_in w.config.epoch + place
+
+-- each run of an item that ended in a conflict stated the stored version
+abbrev pub StatesVersions : World → Type 0
+StatesVersions w =
+    (request place : ℕ) (o : RunOutcome) → Mem o (runs_at w request place) → o.status ≡ 409 →
+    (version : ℕ) × (stored_in o.error ≡ Some version)
+
 -- ---- the promise
 
 -- each is above all those before it
 abbrev pub AreRising : List ℕ → Type 0
 AreRising [] = Unit {0}
 AreRising (n ∷ ns) = ((m : ℕ) → Mem m ns → n < m) × AreRising ns
+
+-- each accepted operation was applied, or is reported by its lane
+abbrev pub AreAccountedFor : World → (Document → List Op) → Type 0
+AreAccountedFor w ops =
+    (p : ℕ) (o : Op) → Mem o (accepted_from w p) →
+    Mem o (ops (document_of o.key)) ⊎ Mem (name_of o) (names_of (reports w (lane_of w (document_of o.key))))
 
 -- The kept names of a document are those of operations (`named`). These are the operations whose writes the index applied
 -- to it, over all incarnations: distinct accepted operations for this document, one for each write and with its action
@@ -78,8 +110,10 @@ AreRising (n ∷ ns) = ((m : ℕ) → Mem m ns → n < m) × AreRising ns
 -- (`rising`).
 -- In the current incarnation: one assignment of versions, never the same to two operations of one document
 -- (`assignment`), is what all lanes assigned (`assigned`); each report names an accepted operation, and its cause is
--- true by that assignment (`true_reports`); no operation is reported twice, by one lane or by two (`once`,
--- `in_one_lane`); and when the world is finished, each accepted operation was applied or is reported (`complete`).
+-- true by that assignment (`true_reports`); and no operation is reported twice, by one lane or by two (`once`,
+-- `in_one_lane`). All this holds whatever versions the index had at the start. When the world is finished, each accepted
+-- operation was applied or is reported, if the index had only lower versions (`complete`); or if it states the stored
+-- version in each conflict, and had none that is assigned now (`complete_if_stated`).
 pub record Delivered (w : World) : Type 0 where
   pub log : List Ran
   pub ran : IsLog w log
@@ -95,8 +129,8 @@ pub record Delivered (w : World) : Type 0 where
   pub true_reports : (l : ℕ) (r : Report) → Mem r (reports w l) → IsTrueReport w log versions l r
   pub once : (l : ℕ) → AllDistinct (names_of (reports w l))
   pub in_one_lane : (l m : ℕ) (r q : Report) → Mem r (reports w l) → Mem q (reports w m) → r.name ≡ q.name → l ≡ m
-  pub complete : is_finished w ≡ true → (p : ℕ) (o : Op) → Mem o (accepted_from w p)
-      → Mem o (ops (document_of o.key)) ⊎ Mem (name_of o) (names_of (reports w (lane_of w (document_of o.key))))
+  pub complete : StartsBelow w → is_finished w ≡ true → AreAccountedFor w ops
+  pub complete_if_stated : w.opening.states ≡ true → StartsBeside w → is_finished w ≡ true → AreAccountedFor w ops
 
 -- The epoch did not fall. If it is the same, nothing more was accepted from a producer that had closed, and it stays
 -- closed.

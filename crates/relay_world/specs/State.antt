@@ -58,9 +58,11 @@ pub record Past : Type 0 where
   pub taken : List (List Op)
   pub sent : ℕ
 
--- The config; each lane with its queue; what was accepted from each producer since the last restart; the incarnations
--- that have ended, the oldest first; all requests ever sent, in order; the index; and what is kept of the documents.
+-- The index as it was at the start; the config; each lane with its queue; what was accepted from each producer since the
+-- last restart; the incarnations that have ended, the oldest first; all requests ever sent, in order; the index; and what is
+-- kept of the documents.
 pub record World : Type 0 where
+  pub opening : index.State
   pub config : RelayConfig
   pub desks : List Desk
   pub accepted : List (List Op)
@@ -81,6 +83,7 @@ fresh_desk c = record {
 
 abbrev pub fresh : RelayConfig → index.State → World
 fresh c i = record {
+  opening = i;
   config = c;
   desks = replicate c.lanes (fresh_desk c);
   accepted = replicate c.producers [];
@@ -93,6 +96,10 @@ fresh c i = record {
 -- every version that the index has is below this one
 abbrev pub IsBelow : ℕ → index.State → Type 0
 IsBelow first i = (k : Document) (u : ℕ) → index.stored_version i k ≡ Some u → u < first
+
+-- the version of a document that the index had at the start
+abbrev pub opening_version : World → Document → Option ℕ
+opening_version w k = index.stored_version w.opening k
 
 -- ---- what callers ask
 

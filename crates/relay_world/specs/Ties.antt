@@ -21,8 +21,8 @@ use Rattle.relay_core.specs.State.{config_of}
 use Rattle.relay_core.specs.Ties.{ops_of}
 use Rattle.relay_world.specs.declared.event.Event.{Event}
 use Rattle.relay_world.specs.declared.event.StepAnswer.{StepAnswer}
-use Rattle.relay_world.specs.State.{Desk, Item, Sent, World, fresh, ended_of, desk_at, lane_of, accepted_from, op_with, applied_writes, names_at, before_at, is_closed, taken_of, IsBelow}
-use Rattle.relay_world.specs.Headline.{request_of, IsLog, Delivered}
+use Rattle.relay_world.specs.State.{Desk, Item, Sent, World, fresh, opening_version, ended_of, desk_at, lane_of, accepted_from, op_with, applied_writes, names_at, before_at, is_closed, taken_of, IsBelow}
+use Rattle.relay_world.specs.Headline.{request_of, IsLog, StatesVersions, Delivered}
 use Rattle.relay_world.specs.Steps.{Steps}
 
 -- the operations that are queued
@@ -90,15 +90,21 @@ pub record IsIndexOf (w : World) (t : Together) : Type 0 where
 -- have. The last argument is how many requests each lane had sent when the current incarnation began.
 pub record IsTied (w : World) (t : Together) (n : ℕ → ℕ) : Type 0 where
   pub few : w.config.deal < 2 ^ 40
-  pub came_about : CameAboutTogether (config_of w.config) (lane_of w) (ended_of w) t
+  pub came_about : CameAboutTogether (opening_version w) (config_of w.config) (lane_of w) (ended_of w) t
   pub lanes : AreLanes w t n
   pub requests : AreRequests w t n
   pub index : IsIndexOf w t
 
-pub record IsWorld (w : World) : Type 0 where
+pub record HasMachines (w : World) : Type 0 where
   pub machines : Together
   pub before : ℕ → ℕ
   pub tied : IsTied w machines before
+
+-- And the index states versions if it did at the start, as it has done in each run.
+pub record IsWorld (w : World) : Type 0 where
+  pub has : HasMachines w
+  pub states : w.index.states ≡ w.opening.states
+  pub stated : w.opening.states ≡ true → StatesVersions w
 
 -- ---- what is promised, and what keeps it
 
@@ -113,9 +119,9 @@ FreshIsBelow = (first : ℕ) → IsBelow first index.fresh
 abbrev pub HighestIsBelow : Type 0
 HighestIsBelow = (first : ℕ) (i : index.State) (highest : Option ℕ) → index.IsHighest i highest → is_above highest first ≡ true → IsBelow first i
 
--- a fresh world is tied, if every stored version is below the first one of its epoch
+-- a fresh world is tied, whatever the index has stored
 abbrev pub FreshIsWorld : Type 0
-FreshIsWorld = (c : RelayConfig) (i : index.State) → c.deal < 2 ^ 40 → IsBelow (first_in c.epoch) i → IsWorld (fresh c i)
+FreshIsWorld = (c : RelayConfig) (i : index.State) → c.deal < 2 ^ 40 → IsWorld (fresh c i)
 
 -- each event keeps a world tied, refused or not
 abbrev pub StepsKeepTied : Type 0

@@ -5,6 +5,7 @@ use Rattle.relay_world.specs.Memory.{ArePartsOf}
 
 abbrev pub world_of : Inside → World
 world_of a = record {
+  opening = a.opening.value;
   config = a.config;
   desks = a.desks.items;
   accepted = a.accepted.items;

@@ -3,16 +3,15 @@
 ghost use Rattle.relay_world.specs.Ties.{FreshIsWorld, StepsKeepTied, WorldsDeliver, FreshIsBelow};
 ghost use Rattle.relay_world.specs.Ties.{HighestIsBelow};
 
-/// A fresh world is tied to machines of delivery which share one outside, if every version that the
-/// index has is below the first one to be assigned; each event keeps a world tied; and a tied world
-/// delivers.
+/// A fresh world is tied to machines of delivery which share one outside, whatever its index has; each
+/// event keeps a world tied; and a tied world delivers.
 pub fn tied_worlds_deliver()
     ensures fresh { FreshIsWorld }
     ensures steps { StepsKeepTied }
     ensures deliver { WorldsDeliver }
 {}
 
-/// The condition of `World::new` on its index: an index to which nothing was applied is below every
+/// A condition on an index under which nothing is lost: an index to which nothing was applied is below every
 /// version, and any other index is below a version if its highest version is.
 pub fn indexes_are_below()
     ensures fresh { FreshIsBelow }

@@ -39,6 +39,7 @@ use relay_results::Outcome;
 use std::alloc::{AllocError, Global};
 use std::marker::Model;
 use std::mem;
+use std::snapshot::Snapshot;
 
 // The maximum number of operations of a producer, 2^40.
 const NUMBER_LIMIT: u64 = 1_099_511_627_776;
@@ -47,6 +48,8 @@ const NUMBER_LIMIT: u64 = 1_099_511_627_776;
 // applied.
 #[derive(Drop)]
 pub(crate) struct Parts {
+    // The index as it was at the start, for proofs only.
+    opening: Snapshot<Index>,
     alloc: Global,
     config: RelayConfig,
     desks: Vec<Desk>,
@@ -112,6 +115,7 @@ impl Parts {
         ensures { IfOk result (λ w. w ≡ fresh config index) }
     {
         Ok(Parts {
+            opening: Snapshot::of(&index),
             alloc,
             config,
             desks: fresh_desks(alloc, config)?,

@@ -6,9 +6,7 @@ ghost use Rattle.relay_core.specs.Limits.{is_valid};
 ghost use Rattle.relay_core.specs.Walk.{report_of};
 ghost use Rattle.relay_world.specs.State.{fresh, accepted_from, applied_writes, names_at, reports};
 ghost use Rattle.relay_world.specs.State.{write_at, is_finished, incarnations_of, AreKeysOf};
-ghost use Rattle.relay_world.specs.State.{IsBelow};
 ghost use Rattle.relay_delivery.specs.Incarnations.{accepted_in};
-ghost use Rattle.relay_delivery.specs.Machine.{first_in};
 ghost use Rattle.relay_world.specs.Headline.{Delivered, StaysClosed};
 ghost use Rattle.relay_world.specs.Memory.{IsWriteAt};
 ghost use Rattle.relay_world.specs.Steps.{Steps, Plays, none_yet, counts_after, may_allocate};
@@ -98,12 +96,13 @@ fn play_all(parts: &mut Parts, events: &[Event]) -> Result<RunEnd, (u64, AllocEr
 
 // Events are played.
 impl World {
-    /// A world in which nothing has happened, over an index that may have versions from before:
-    /// each must be below the first one of the config's epoch, which can be checked with
-    /// `Index::highest`. The config must be valid. `AllocError`: allocation failed.
+    /// A world in which nothing has happened, over an index that may have any versions from before.
+    /// That nothing is lost needs either that each of them is below the first one of the config's
+    /// epoch, which can be checked with `Index::highest`; or that the index states the stored version
+    /// in each conflict, and has none that a lane assigns. The config must be valid. `AllocError`:
+    /// allocation failed.
     pub fn new(alloc: Global, config: RelayConfig, index: Index) -> Result<World, AllocError>
         requires valid { is_valid config ≡ true }
-        requires below { IsBelow (first_in config.epoch) index }
         ensures { IfOk result (λ w. w ≡ fresh config index) }
     {
         Ok(World {

@@ -1,9 +1,6 @@
 //! Worlds over an index that already has versions.
-ghost use Rattle.std.specs.Prelude.{◌≡◌, ◌+◌, ◌*◌, ◌^◌, true};
-ghost use Rattle.relay_world.specs.State.{IsBelow};
-
 use crate::script::{THREE, accepts};
-use relay_action::{Action, Body, DocKey, Mail, Op, Write};
+use relay_action::{Action, Body, DocKey, List, Mail, Op, Write};
 use relay_core::{Lane, RelayConfig};
 use relay_index::{Choice, Index};
 use relay_results::Outcome;
@@ -38,19 +35,12 @@ fn index_at_five(alloc: Global) -> Result<Index, Fail> {
 /// An epoch whose versions are above those of that index.
 const NEXT_EPOCH: RelayConfig = RelayConfig { epoch: 1, ..THREE };
 
-/// Whether the versions of an index are below the first one to be assigned.
-fn is_below(config: RelayConfig, index: &Index) -> bool
-    ensures { result ≡ true → IsBelow (config.epoch * 2 ^ 40 + 1) index.now }
-{
-    match index.highest() {
-        None => true,
-        Some(highest) => u128::from(highest) < u128::from(config.epoch) * 1_099_511_627_776 + 1,
-    }
-}
+/// A config whose lanes assign three versions, 1 to 3.
+const THREE_VERSIONS: RelayConfig = RelayConfig { deal: 3, ..THREE };
 
-/// A world over an index, if the config is valid and the index below its first version.
+/// A world over an index, if the config is valid.
 fn world_over(alloc: Global, config: RelayConfig, index: Index) -> Result<Option<World>, Fail> {
-    if !config.valid() || !is_below(config, &index) {
+    if !config.valid() {
         return Ok(None);
     }
     Ok(Some(World::new(alloc, config, index)?))
@@ -123,16 +113,52 @@ fn only_its_own(rt: HostRuntime) -> Result<(), Fail> {
     Ok(())
 }
 
-/// Whether there is a world over that index whose first version is already stored.
-fn goes_below(alloc: Global) -> Result<bool, Fail> {
-    let index = index_at_five(alloc)?;
-    Ok(world_over(alloc, THREE, index)?.is_some())
+/// Whether document 1 is put, its request is lost before it ran, and it is sent and run again.
+fn sends_again(alloc: Global, world: &mut World) -> Result<bool, Fail> {
+    Ok(
+        sends_one(alloc, world)?
+            && accepts(world, &Event::Take(0))
+            && accepts(world, &Event::Send(0))
+            && accepts(world, &Event::Lost(1))
+            && accepts(world, &Event::Tick(0))
+            && accepts(world, &Event::Take(0))
+            && accepts(world, &Event::Send(0))
+            && accepts(world, &Event::Run(2, 1, Choice::Run)),
+    )
 }
 
-// A first version that is already stored is refused before there is a world.
+/// How many operations the reply to request 2 settled as already applied, and how many it reported.
+fn settled_by(alloc: Global, world: &mut World) -> (u32, u32) {
+    match world.step(&Event::Reply(2, List::of(Vec::new(alloc)))) {
+        Ok(StepAnswer::Settled(counts)) => (counts.already, counts.reported),
+        _ => (0, 0),
+    }
+}
+
+/// What becomes of a repeat over an index that has version 5 of each document, where 1 to 3 are
+/// assigned.
+fn becomes(alloc: Global, states: bool) -> Result<(u32, u32), Fail> {
+    let mut index = index_at_five(alloc)?;
+    if states {
+        index.state_versions();
+    }
+    match world_over(alloc, THREE_VERSIONS, index)? {
+        Some(mut world) if sends_again(alloc, &mut world)? => Ok(settled_by(alloc, &mut world)),
+        _ => Ok((0, 0)),
+    }
+}
+
+// An index with higher versions: if it states them, the operation is reported.
 #[test]
-fn stored_at_the_first(rt: HostRuntime) -> Result<(), Fail> {
-    assert!(rt; !goes_below(rt.alloc())?);
+fn reported_if_stated(rt: HostRuntime) -> Result<(), Fail> {
+    assert_eq!(rt; becomes(rt.alloc(), true)?, (0, 1));
+    Ok(())
+}
+
+// And otherwise it is taken for applied, which it never was.
+#[test]
+fn lost_if_not_stated(rt: HostRuntime) -> Result<(), Fail> {
+    assert_eq!(rt; becomes(rt.alloc(), false)?, (1, 0));
     Ok(())
 }
 

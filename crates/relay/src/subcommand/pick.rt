@@ -1,5 +1,5 @@
 //! `relay pick`.
-use crate::report::out_of_memory;
+use crate::report::{out_of_memory, said};
 use clap::{Arg, ArgAction, ArgMatches, Command};
 use relay_action::StdStream;
 use relay_ndjson::LineKind;
@@ -285,9 +285,4 @@ fn report_fault<R: Eprint>(rt: &R, path: &str, fault: ReportFault) -> Exit {
         ReportFault::Read => said(rt, path, "read failed", Exit::Device),
         ReportFault::Memory => out_of_memory(rt),
     }
-}
-
-fn said<R: Eprint>(rt: &R, path: &str, text: &str, exit: Exit) -> Exit {
-    let _ = eprintln!(rt; "{path}: {text}");
-    exit
 }

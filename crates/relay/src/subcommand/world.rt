@@ -1,5 +1,5 @@
 //! `relay world`.
-use crate::stand_in::{index_of, reasons};
+use crate::stand_in::{reasons, served_index, writes};
 use clap::{ArgMatches, Command};
 use relay_action::StdStream;
 use relay_scenario::exit::exit_of_script;
@@ -68,23 +68,35 @@ have closed at all lanes and nothing is queued or held, otherwise `finished no`.
     printf '%s\\n' 'world 1 1 10 10 10 4096 0 3 1 0 1000' 'put 0 b 1 index {\"a\":1}' \\
         'take 0' 'send 0' 'run 1 1' 'lost 1' 'tick 0' 'take 0' 'send 0' 'run 2 1' 'reply 2' | relay world
 
+The index may have versions from before, from the request of --writes. Then an operation is lost without a
+report if it is taken for applied though only a version from before is in its way: that cannot happen if
+these are below the first version of the epoch, or with --reasons, if none is one that a lane assigns.
+
 A script has at most 1000000 lines. Any other line ends it with `line N: BadLine` on standard error and
 status 2; the answers before it have been written. The exit status is 3 if a read or write fails, and 4 if
 memory runs out.";
 
-/// Its help and its option.
+/// Its help and its options.
 pub fn command<'a>(alloc: Global, name: &'static str) -> Result<Command<'a>, AllocError> {
     Command::new(alloc, name)
         .about(ABOUT)
         .long_about(LONG_ABOUT)
-        .arg(reasons(alloc))
+        .arg(reasons(alloc))?
+        .arg(writes(alloc))
 }
 
 /// Runs it over standard input and output.
-pub fn execute<R: Input + Print + Eprint + AllocGlobal>(rt: &R, matches: &ArgMatches<'_>) -> Exit {
+pub fn execute<R: Input + Print + Eprint + AllocGlobal>(
+    rt: &R,
+    host: HostRuntime,
+    matches: &ArgMatches<'_>,
+) -> Exit {
+    let index = match served_index(rt, host, matches) {
+        Ok(index) => index,
+        Err(exit) => return exit,
+    };
     let mut reader = StdStream::new(rt.reader());
     let mut writer = StdStream::new(io::writer(rt));
-    let index = index_of(rt.alloc(), matches);
     match world_script(rt.alloc(), &mut reader, &mut writer, index) {
         Ok(()) => Exit::Done,
         Err(fault) => report(rt, fault),

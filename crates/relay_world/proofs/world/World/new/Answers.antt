@@ -9,4 +9,4 @@ pub invariant_of-result : goal.invariant_of-result
 invariant_of-result c =
     let most = (valid_facts c.args.config c.requires.valid).deal.1 in
     let all : 2 ^ 40 ≡ 1099511627776 = refl in
-    subst IsWorld (sym c.in_ok-new.ensures) (fresh_is_world c.args.config c.args.index (omega (arith, most, all)) c.requires.below)
+    subst IsWorld (sym c.in_ok-new.ensures) (fresh_is_world c.args.config c.args.index (omega (arith, most, all)))
