@@ -1,8 +1,13 @@
-//! The channels of receipts with any one of their allocations refused (`make refusals`): the call
-//! reports the refusal and the next one succeeds.
-use relay_receipts::receipts;
-use relay_telling::{Ending, telling};
+//! The channels of receipts, and a lane that tells of a report, with any one of their allocations
+//! refused (`make refusals`): the call reports the refusal and the next one succeeds.
+use relay_action::OpName;
+use relay_fixtures::keys;
+use relay_lane::{Cause, Report};
+use relay_receipts::{ReceiptTake, receipts};
+use relay_telling::{Ending, LaneTells, telling};
+use relay_threads::Tell;
 use std::alloc::Global;
+use std::sync::Wait;
 
 // Whether the channels of two producers and two lanes are made, by a second call if the first was
 // refused.
@@ -29,4 +34,44 @@ fn is_made(alloc: Global) -> bool {
 #[test]
 fn refused_channel(rt: HostRuntime) {
     assert!(rt; is_made(rt.alloc()));
+}
+
+// A report of the first operation of producer 0, on a document with a long id.
+fn report_of(alloc: Global) -> Option<Report> {
+    Some(Report {
+        name: OpName {
+            epoch: 1,
+            producer: 0,
+            number: 1,
+        },
+        key: keys::key_of(alloc, "books", "an id of which a copy has to be allocated")?,
+        cause: Cause::Request { status: 401 },
+    })
+}
+
+// Whether a lane tells of a report, by a second call if the first was refused, and only once.
+fn is_told_once<R: Wait>(
+    rt: &R,
+    lane: &mut LaneTells,
+    take: &mut ReceiptTake<Ending>,
+    report: &Report,
+) -> bool {
+    if lane.reported(rt, report).is_err() && lane.reported(rt, report).is_err() {
+        return false;
+    }
+    let first = take.try_take(rt);
+    matches!(first, Ok(Some(_))) && matches!(take.try_take(rt), Ok(None))
+}
+
+fn tells_report<R: Wait>(rt: &R, alloc: Global) -> Option<bool> {
+    let (mut tells, mut takes) = telling(alloc, 1, 1, 1)
+        .or_else(|_| telling(alloc, 1, 1, 1))
+        .ok()?;
+    let report = report_of(alloc)?;
+    Some(is_told_once(rt, tells.get_mut(0)?, takes.get_mut(0)?, &report))
+}
+
+#[test]
+fn refused_report(rt: HostRuntime) {
+    assert!(rt; tells_report(&rt, rt.alloc()) == Some(true));
 }
