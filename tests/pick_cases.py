@@ -239,7 +239,7 @@ def put_again():
         with open(report, "rb") as file:
             names = [json.loads(it) for it in file.read().splitlines()]
         wanted = sorted((p, n) for p, ops in enumerate(producers) for n, (it, _) in enumerate(ops, 1) if bad({"_id": it}))
-        check("the report names what was refused", [(it["producer"], it["number"]) for it in names] == wanted)
+        check("the report names what was refused", sorted((it["producer"], it["number"]) for it in names) == wanted)
         text, err, status = picked(report, *files)
         again = [producers[p][n - 1] for p, n in wanted]
         lines = "".join('{"delete":{"_index":"books","_id":"%s"}}\n' % it if source is None else '{"index":{"_index":"books","_id":"%s"}}\n%s\n' % (it, source) for it, source in again)

@@ -28,8 +28,9 @@ def server_with(versions, states=True, **more):
 
 
 def reports_in(path):
+    """The reports of a file, by producer and number."""
     with open(path) as file:
-        return [json.loads(line) for line in file]
+        return sorted(map(json.loads, file), key=lambda it: (it["producer"], it["number"]))
 
 
 def old_epoch(name, fault, stored, hint):

@@ -3,6 +3,8 @@ import json
 import os
 import subprocess
 import tempfile
+import threading
+import time
 
 from bulk_server import Server
 from program import RELAY, check
@@ -15,8 +17,13 @@ def content(path):
         return file.read()
 
 
+def lines_of(path):
+    """The lines of a file in byte order: the lines of a report are in the order in which they arose."""
+    return sorted(content(path).splitlines(keepends=True))
+
+
 def what_is_saved():
-    """The file has a line for each reported operation, by producer and number, with its keys in byte order."""
+    """The file has a line for each reported operation, with its keys in byte order."""
     with tempfile.TemporaryDirectory() as folder:
         files = [written(folder, 0, [("a b", "{}"), ("ok", "{}"), ("a\\nb", None)]), written(folder, 1, [("\u00e9", "{}")])]
         report = os.path.join(folder, "report")
@@ -27,9 +34,9 @@ def what_is_saved():
             {"cause": "Refused", "epoch": 2, "id": "a\nb", "index": "books", "kind": "planned", "number": 3, "producer": 0, "status": 400},
             {"cause": "Refused", "epoch": 2, "id": "\u00e9", "index": "books", "kind": "planned", "number": 1, "producer": 1, "status": 400},
         ]
-        lines = "".join(json.dumps(it, separators=(",", ":"), sort_keys=True, ensure_ascii=False) + "\n" for it in wanted).encode()
+        lines = sorted((json.dumps(it, separators=(",", ":"), sort_keys=True, ensure_ascii=False) + "\n").encode() for it in wanted)
         printed = "report 2.0:1 books/a b Refused 400 planned\nreport 2.0:3 books/a\nb Refused 400 planned\nreport 2.1:1 books/\u00e9 Refused 400 planned\napplied 1 already 0 reported 3\n".encode()
-        check("what is saved", content(report) == lines and done == (5, printed, b""), (done, content(report)))
+        check("what is saved", lines_of(report) == lines and done == (5, printed, b""), (done, content(report)))
         server.close()
         path = written(folder, 0, [("1", None)])
         os.remove(report)
@@ -140,4 +147,95 @@ def added():
         check("a device is opened as it is", done[2] == 5 and done[1] == b"", done)
 
 
-GROUPS = (what_is_saved, files_that_fail, files_of_another, added)
+def count_of(path):
+    """How many lines a file has that may not be there yet."""
+    return content(path).count(b"\n") if os.path.exists(path) else 0
+
+
+def until(holds, seconds=60):
+    """Waits until this holds, and returns whether it did."""
+    end = time.monotonic() + seconds
+    while not holds() and time.monotonic() < end:
+        time.sleep(0.02)
+    return holds()
+
+
+def started(port, report, *more):
+    return subprocess.Popen([RELAY, "run", "--to", "127.0.0.1:%d" % port, "--report", report, *more], stdin=subprocess.PIPE, stdout=subprocess.PIPE, stderr=subprocess.PIPE)
+
+
+def deletes(numbers):
+    return b"".join(b'{"delete":{"_index":"books","_id":"%d"}}\n' % number for number in numbers)
+
+
+def named(text):
+    """The producer and the number in each line of a report; each line has to be whole."""
+    assert text.endswith(b"\n") or not text
+    found = map(json.loads, text.splitlines())
+    return [(it["producer"], it["number"]) for it in found]
+
+
+def killed():
+    """A run that is killed leaves the line of each operation that was reported until then, and each line is whole."""
+    with tempfile.TemporaryDirectory() as folder:
+        report = os.path.join(folder, "report")
+        process = started(free_port(), report, "--attempts", "1", "--linger", "0", "-")
+        process.stdin.write(deletes(range(50)))
+        process.stdin.flush()
+        came = until(lambda: count_of(report) == 50)
+        check("reports are saved while the run goes on", came and process.poll() is None, content(report)[-300:])
+        process.kill()
+        out, _ = process.communicate()
+        check("a run that was killed in an outage", named(content(report)) == [(0, number) for number in range(1, 51)] and out == b"", content(report)[-300:])
+        server = Server(refuse=lambda meta: 400)
+        for round in range(5):
+            report = os.path.join(folder, "report%d" % round)
+            files = [written(folder, p, operations(p, 20_000, 50)) for p in range(4)]
+            process = started(server.port, report, "--lanes", "8", "--count", "10", "--linger", "0", "--epoch", str(round), *files)
+            came = until(lambda: count_of(report) > 100 * (round + 1))
+            process.kill()
+            process.communicate()
+            names = named(content(report))
+            check("a run of 8 lanes that was killed", came and len(names) == len(set(names)), len(names))
+        server.close()
+
+
+def eight_lanes():
+    """The lines of several lanes do not mix, each operation has one, and those of a document are in order."""
+    with tempfile.TemporaryDirectory() as folder:
+        producers = [operations(p, 2_000, 40) for p in range(4)]
+        files, report = [written(folder, p, ops) for p, ops in enumerate(producers)], os.path.join(folder, "report")
+        server = Server(refuse=lambda meta: 400)
+        done = relay_run(server.port, files, "--report", report, "--lanes", "8", "--count", "7", "--linger", "0")
+        names = named(content(report))
+        check("8 lanes save each report once", done[0] == 5 and sorted(names) == [(p, n) for p in range(4) for n in range(1, 2_001)], (done[0], len(names)))
+        by_document = {}
+        for line in map(json.loads, content(report).splitlines()):
+            by_document.setdefault(line["id"], []).append(line["number"])
+        check("8 lanes save the reports of a document in order", all(it == sorted(it) for it in by_document.values()))
+        server.close()
+
+
+def a_pipe():
+    """A pipe gets each report as it arises."""
+    with tempfile.TemporaryDirectory() as folder:
+        report, came = os.path.join(folder, "pipe"), []
+        os.mkfifo(report)
+
+        def read():
+            with open(report, "rb") as file:
+                came.extend(iter(file.readline, b""))
+
+        reader = threading.Thread(target=read)
+        reader.start()
+        process = started(free_port(), report, "--attempts", "1", "--linger", "0", "-")
+        process.stdin.write(deletes([1]))
+        process.stdin.flush()
+        gave_up = b'{"cause":"GaveUp","id":"%d","index":"books","number":%d,"producer":0,"sends":1}\n'
+        check("a pipe gets a report while the run goes on", until(lambda: came == [gave_up % (1, 1)]) and process.poll() is None, came)
+        out, err = process.communicate(deletes([2]))
+        reader.join()
+        check("a pipe gets all reports", came == [gave_up % (n, n) for n in (1, 2)] and process.returncode == 5 and err == b"", (came, out, err))
+
+
+GROUPS = (what_is_saved, files_that_fail, files_of_another, added, killed, eight_lanes, a_pipe)

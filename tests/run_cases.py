@@ -218,8 +218,8 @@ def faults():
         server = Server(lambda number: dice.choice([None, None, *FAULTS]))
         judge("all faults at once", server, producers, relay_run(server.port, files, "--count", "25", "--linger", "0", "--lanes", "4", "--attempts", "32"), 32)
         server.close()
-        for status in (400, 401, 500):
-            server = Server(lambda number, status=status: status if number == 1 else None)
+        for status, at in ((400, 1), (401, 2), (500, 1)):
+            server = Server(lambda number, status=status, at=at: status if number == at else None)
             done = relay_run(server.port, files[:1], "--linger", "0", "--count", "5")
             judge("status %d" % status, server, producers[:1], done)
             check("status %d is reported" % status, b" Request %d\n" % status in done[1], done)

@@ -75,6 +75,7 @@ stopped : (rest new : Reading) (fed after : ProducerState) (f : Option FeedFault
 stopped rest new fed after None h = stays fed after h.1
 stopped rest new fed after (Some (fault.Input e)) h = stays fed after h.1
 stopped rest new fed after (Some fault.NumbersSpent) h = stays fed after h.4
+stopped rest new fed after (Some fault.Stopped) h = stays fed after h.1
 stopped rest new fed after (Some fault.LaneGone) h =
     record {
       put = ap (λ (s : ProducerState). s.put) h.3;
@@ -242,9 +243,9 @@ module _ {S : Type 0} (left : S → Option (List ℕ)) (failed : S → ℕ) wher
   joins_all hs others cs fs j none =
       subst (λ l. AllEndFed left failed (map given_to l) cs fs) (sym (j.all ∙ ap (λ l. j.joined ++ l) none ∙ append-nil j.joined)) j.ended
 
--- what `finish` says of these operations, with the config and the wires of the start
-pub delivered_as : {W : Type 0} (describes : W → Bool) (fits : W → Outside → Type 0) (c k : RelayConfig) (ws vs : List W) (puts : ℕ → List Op) (cs : List ClosedProducerState) (r : Result (Summary W) FinishFault)
-    → c ≡ k → ws ≡ vs → HavePut puts 0 cs → IfOk r (λ s. (all : ℕ → List Op) → HavePut all 0 cs → AllDelivered describes fits c all 0 ws s.lanes.items) → IfOk r (λ s. AllDelivered describes fits k puts 0 vs s.lanes.items)
-delivered_as {W = W} describes fits c k ws vs puts cs (Ok s) same wires h d =
-    subst (λ (x : RelayConfig × List W). AllDelivered describes fits x.0 puts 0 x.1 s.lanes.items) (λ i. (same i, wires i)) (d puts h)
+-- what `finish_telling` says of these operations, with the config and the wires of the start
+pub delivered_as : {W V : Type 0} (describes : W → Bool) (fits : W → Outside → Type 0) (c k : RelayConfig) (ws vs : List W) (puts : ℕ → List Op) (cs : List ClosedProducerState) (r : Result (Summary W × V) FinishFault)
+    → c ≡ k → ws ≡ vs → HavePut puts 0 cs → IfOk r (λ f. (all : ℕ → List Op) → HavePut all 0 cs → AllDelivered describes fits c all 0 ws f.0.lanes.items) → IfOk r (λ f. AllDelivered describes fits k puts 0 vs f.0.lanes.items)
+delivered_as {W = W} describes fits c k ws vs puts cs (Ok f) same wires h d =
+    subst (λ (x : RelayConfig × List W). AllDelivered describes fits x.0 puts 0 x.1 f.0.lanes.items) (λ i. (same i, wires i)) (d puts h)
 delivered_as describes fits c k ws vs puts cs (Err e) same wires h d = tt

@@ -1,5 +1,7 @@
 -- What was put is what was taken.
 use Rattle.std.proofs.Common.{◌≡◌, ℕ, List, [], ◌∷◌, ◌++◌, Result, Ok, Err, refl, sym, subst, ap, ◌∙◌}
+use Rattle.relay_action.specs.declared.action.Action.{Action}
+use Rattle.relay_action.specs.declared.key.DocKey.{DocKey}
 use Rattle.relay_ndjson.specs.declared.parser.Phase.TheVariants as phase
 use Rattle.relay_ndjson.specs.Operations.{Operation}
 use Rattle.relay_ndjson.specs.Reading.{Reading, Takes}
@@ -48,3 +50,11 @@ pub refused_stops : (old new : Reading) (p q : ProducerState) (n : ℕ) (op : Op
 refused_stops old new p q n op (fault.Input e) t h = absurd h
 refused_stops old new p q n op fault.NumbersSpent t h = (n, op, t, h.0, h.1)
 refused_stops old new p q n op fault.LaneGone t h = (n, op, t, h)
+refused_stops old new p q n op fault.Stopped t h = absurd h
+
+-- a put is not refused since a run stops
+pub not_stopped : (key : DocKey) (action : Action) (p q : ProducerState) (e : FeedFault) → Puts key action p q (Err e) → e ≡ fault.Stopped → ⊥
+not_stopped key action p q (fault.Input x) h is = absurd h
+not_stopped key action p q fault.NumbersSpent h is = cc
+not_stopped key action p q fault.LaneGone h is = cc
+not_stopped key action p q fault.Stopped h is = absurd h

@@ -4,3 +4,4 @@ pub mod Ending
 pub mod Texts
 pub mod Said
 pub mod Hinting
+pub mod Savers

@@ -17,12 +17,13 @@ line_fault_text line kind.Read = codes "read failed"
 line_fault_text line kind.Memory = codes "out of memory"
 line_fault_text line other = codes "line " ++ decimal line ++ codes ": " ++ name_of other
 
--- the message line for a file; empty for a lane that is gone, which has a message of its own
+-- the message line for a file; empty for a lane that is gone and for a run that stopped, which have messages of their own
 abbrev pub file_fault_line : List ℕ → FileFault → List ℕ
 file_fault_line file fault.Open = file ++ codes ": open failed\n"
 file_fault_line file (fault.Feed (feed.Input e)) = file ++ codes ": " ++ line_fault_text e.line e.kind ++ codes "\n"
 file_fault_line file (fault.Feed feed.NumbersSpent) = file ++ codes ": NumbersSpent\n"
 file_fault_line file (fault.Feed feed.LaneGone) = []
+file_fault_line file (fault.Feed feed.Stopped) = []
 
 -- why a file was not put in full: it was not opened, or this stopped its producer
 abbrev pub file_fault : Bool → Option FeedFault → Option FileFault
@@ -36,6 +37,7 @@ exit_of_file fault.Open = exit.Device
 exit_of_file (fault.Feed (feed.Input e)) = exit_of_kind e.kind
 exit_of_file (fault.Feed feed.NumbersSpent) = exit.Input
 exit_of_file (fault.Feed feed.LaneGone) = exit.Done
+exit_of_file (fault.Feed feed.Stopped) = exit.Done
 
 -- of several exit statuses the one with the highest rank is used; from the highest: a failed allocation, a device
 -- fault, an input fault, a usage error, reported operations

@@ -19,7 +19,8 @@ after_puts s [] = s
 after_puts s (op ∷ ops) = after_puts (after_put op.0 op.1 s) ops
 
 -- Why no more was put: only blank lines were left; or what follows has a fault, or a read or an allocation for it
--- failed; or there is one more operation, but no number is left for it or its lane is gone.
+-- failed; or there is one more operation, but no number is left for it or its lane is gone; or it was told to stop, and
+-- nothing more was read.
 abbrev pub Stops : Reading → Reading → ProducerState → ProducerState → Result Unit FeedFault → Type 0
 Stops rest new fed after (Ok u) = Ends rest new × (after ≡ fed)
 Stops rest new fed after (Err (fault.Input e)) = Fails rest new e × (after ≡ fed)
@@ -27,6 +28,7 @@ Stops rest new fed after (Err fault.NumbersSpent) =
     (n : ℕ) × (op : Operation) × Takes rest new n op × (fed.put ≡ 2 ^ 40) × (after ≡ fed)
 Stops rest new fed after (Err fault.LaneGone) =
     (n : ℕ) × (op : Operation) × Takes rest new n op × (after ≡ after_gone op.0 fed)
+Stops rest new fed after (Err fault.Stopped) = (new ≡ rest) × (after ≡ fed)
 
 -- the fault for the refusal of a put
 abbrev pub fault_of : PutFaultKind → FeedFault
@@ -39,6 +41,7 @@ Puts key action old new (Ok u) = (old.put < 2 ^ 40) × (new ≡ after_put key ac
 Puts key action old new (Err (fault.Input e)) = ⊥
 Puts key action old new (Err fault.NumbersSpent) = (old.put ≡ 2 ^ 40) × (new ≡ old)
 Puts key action old new (Err fault.LaneGone) = new ≡ after_gone key old
+Puts key action old new (Err fault.Stopped) = ⊥
 
 -- what one step does
 abbrev pub FeedsNext : Reading → Reading → ProducerState → ProducerState → Result Next FeedFault → Type 0

@@ -5,7 +5,9 @@ pub mod Identities
 pub mod Readers
 pub mod Handles
 pub mod Saying
+pub mod Saving
 pub mod Sources
+pub mod Stopping
 pub mod Leasing
 pub mod Hints
 pub mod ReportFile

@@ -1,10 +1,16 @@
 -- What is written if the file for the reports is not opened, and the exit status.
-use Rattle.std.specs.Prelude.{List, ℕ, codes}
+use Rattle.std.specs.Prelude.{List, ℕ, None, codes}
 use Rattle.relay_words.specs.declared.exit.Exit.{Exit}
 use Rattle.relay_words.specs.declared.exit.Exit.TheVariants as exit
+use Rattle.relay_run.specs.declared.report_file.ReportFile.{ReportFile}
 use Rattle.relay_run.specs.declared.report_file.ReportFileFault.{ReportFileFault}
 use Rattle.relay_run.specs.declared.report_file.ReportFileFault.TheVariants as fault
+use Rattle.relay_run.specs.Saving.{AreUnwritten}
 use Rattle.relay_run.specs.Saying.{file_failed_text}
+
+-- no call of any of these handles failed; a file does not show what was written to it
+abbrev pub AreNewHandles : List (ReportFile × ℕ) → Type 0
+AreNewHandles handles = AreUnwritten (λ h. None) (λ h. h.1) handles
 
 abbrev pub report_file_text : List ℕ → ReportFileFault → List ℕ
 report_file_text name fault.Open = file_failed_text name (codes "create")

@@ -1,5 +1,5 @@
 -- What is written at the end of a run, and the exit status.
-use Rattle.std.specs.Prelude.{◌≡◌, ◌⊎◌, ℕ, List, [], ◌++◌, Option, Result, Ok, Err, codes, flat_map}
+use Rattle.std.specs.Prelude.{◌≡◌, ◌⊎◌, ℕ, List, [], ◌++◌, Option, Result, Ok, Err, Bool, false, true, codes}
 use Rattle.std.specs.Io.KnownBytes.{append_known}
 use Rattle.relay_action.specs.Streams.{FailedSince}
 use Rattle.relay_words.specs.declared.exit.Exit.{Exit}
@@ -10,7 +10,6 @@ use Rattle.relay_threads.specs.declared.fault.FinishFaultKind.TheVariants as kin
 use Rattle.relay_threads.specs.declared.summary.LaneSummary.{LaneSummary}
 use Rattle.relay_threads.specs.declared.summary.Summary.{Summary}
 use Rattle.relay_core.specs.declared.report.Report.{Report}
-use Rattle.relay_report.specs.Reports.{report_line as saved_line}
 use Rattle.relay_run.specs.Faults.{worse}
 use Rattle.relay_run.specs.Outcomes.{TellsOf, finish_fault_text}
 
@@ -52,13 +51,7 @@ Concludes text before (Err f) reports out out' err err' end =
 abbrev pub file_failed_text : List ℕ → List ℕ → List ℕ
 file_failed_text name what = name ++ codes ": " ++ what ++ codes " failed\n"
 
--- The reports were written to the file with this name, one object per line, and there was no message; or a write of
--- it failed, which had a message, and counts as a device fault.
-abbrev pub SavesReports : List ℕ → List Report → Exit → Written → Written → Written → Written → Exit → Type 0
-SavesReports name reports before file file' err err' end =
-    ((file'.0 ≡ append_known file.0 (flat_map saved_line reports)) × (file'.1 ≡ file.1) × (err' ≡ err) × (end ≡ before))
-    ⊎ (FailedSince file.1 file'.1 × IsSaid (file_failed_text name (codes "write")) err err' × (end ≡ worse before exit.Device))
-
--- There was no message, and nothing was written to the file, or a write of it failed.
-abbrev pub StopsSaving : Written → Written → Written → Written → Type 0
-StopsSaving file file' err err' = (err' ≡ err) × ((file' ≡ file) ⊎ FailedSince file.1 file'.1)
+-- If a write of a report to the file with this name failed, that has a message, and counts as a device fault.
+abbrev pub SaysSaved : List ℕ → Bool → Exit → Written → Written → Exit → Type 0
+SaysSaved name false before err err' end = (err' ≡ err) × (end ≡ before)
+SaysSaved name true before err err' end = IsSaid (file_failed_text name (codes "write")) err err' × (end ≡ worse before exit.Device)

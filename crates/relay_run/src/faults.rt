@@ -19,7 +19,8 @@ pub enum FileFault {
 }
 
 /// Adds the message: `FILE: open failed`, `FILE: read failed`, `FILE: out of memory`, `FILE: line
-/// N: KIND` or `FILE: NumbersSpent`. A lane that is gone adds nothing: it has its own message.
+/// N: KIND` or `FILE: NumbersSpent`. A lane that is gone adds nothing, nor does a run that stopped:
+/// they have their own messages.
 /// `AllocError`: allocation failed, and the text is unchanged.
 pub fn add_file_fault(text: &mut Vec<u8>, file: &str, fault: FileFault) -> Result<(), AllocError>
     ensures ok { OnOk result (text.new.items ≡ text.old.items ++ file_fault_line file.now fault) }
@@ -54,6 +55,7 @@ fn append_file_fault(text: &mut Vec<u8>, file: &str, fault: FileFault) -> Result
             text.extend_from_slice(b": NumbersSpent\n")
         }
         FileFault::Feed(FeedFault::LaneGone) => Ok(()),
+        FileFault::Feed(FeedFault::Stopped) => Ok(()),
     }
 }
 
@@ -75,7 +77,7 @@ fn append_line_fault(text: &mut Vec<u8>, line: u64, kind: LineKind) -> Result<()
 }
 
 /// The exit status for a file's fault. For a lane that is gone it is `Done`: the fault of
-/// `Relay::finish` decides the exit status then.
+/// `Relay::finish` decides the exit status then. So it is for a run that stopped: its reason decides.
 pub fn exit_of_file(fault: FileFault) -> Exit
     ensures { result ≡ exit_of_file fault }
 {
@@ -84,6 +86,7 @@ pub fn exit_of_file(fault: FileFault) -> Exit
         FileFault::Feed(FeedFault::Input(fault)) => exit_of_kind(fault.kind),
         FileFault::Feed(FeedFault::NumbersSpent) => Exit::Input,
         FileFault::Feed(FeedFault::LaneGone) => Exit::Done,
+        FileFault::Feed(FeedFault::Stopped) => Exit::Done,
     }
 }
 

@@ -1,9 +1,10 @@
 //! Putting the operations of an input.
-ghost use Rattle.std.specs.Prelude.{◌≡◌};
+ghost use Rattle.std.specs.Prelude.{◌≡◌, ◌≢◌, IfErr, IsTrue, is_some};
 ghost use Rattle.relay_ndjson.specs.declared.parser.Phase.TheVariants as phase;
 ghost use Rattle.relay_producer.specs.Ends.{identities, open_puts};
 ghost use Rattle.relay_run.specs.Feeding.{Feeds, FeedsNext, Puts, failed_by, fault_of};
 
+use crate::stopping::{SharedStop, is_stopped};
 use relay_action::{Action, ByteIn, DocKey};
 use relay_ndjson::{Input, InputFault};
 use relay_producer::{Producer, PutFaultKind};
@@ -19,15 +20,18 @@ pub enum FeedFault {
     NumbersSpent,
     /// The lane of the next operation is gone. The operation was read, but not put.
     LaneGone,
+    /// The run takes no more input. Everything that was read was put.
+    Stopped,
 }
 
-/// Puts the operations of an input, in order, until there are no more or there is a fault. The
-/// producer is not closed. It waits for the input, and while the queue of an operation's lane is
-/// full.
+/// Puts the operations of an input, in order, until there are no more, there is a fault, or the run
+/// is to stop, which it looks at before each. The producer is not closed. It waits for the input, and
+/// while the queue of an operation's lane is full.
 pub fn feed<R: Wait, S: ByteIn>(
     rt: &R,
     input: &mut Input<'_, S>,
     producer: &mut Producer,
+    stop: &Option<SharedStop>,
 ) -> Result<(), FeedFault>
     requires { input.old.phase ≡ phase.Open }
     ensures feeds { Feeds input.old input.new producer.old producer.new result }
@@ -35,8 +39,12 @@ pub fn feed<R: Wait, S: ByteIn>(
     ensures same { identities (open_puts producer.new.ends)
         ≡ identities (open_puts producer.old.ends) }
     ensures producer { producer.new.producer ≡ producer.old.producer }
+    ensures asked { IfErr result (λ e. e ≡ FeedFault.Stopped → IsTrue (is_some stop.now)) }
 {
     'operations: loop {
+        if is_stopped(stop) {
+            return Err(FeedFault::Stopped);
+        }
         match feed_next(rt, input, producer)? {
             Next::Put => {}
             Next::Ended => return Ok(()),
@@ -61,6 +69,7 @@ fn feed_next<R: Wait, S: ByteIn>(
 ) -> Result<Next, FeedFault>
     requires { input.old.phase ≡ phase.Open }
     ensures next { FeedsNext input.old input.new producer.old producer.new result }
+    ensures reads { IfErr result (λ e. e ≢ FeedFault.Stopped) }
     ensures failed { input.new.failed ≡ failed_by result input.old.failed }
     ensures same { identities (open_puts producer.new.ends)
         ≡ identities (open_puts producer.old.ends) }

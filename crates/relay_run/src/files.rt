@@ -9,6 +9,8 @@ ghost use Rattle.std.specs.Io.KnownBytes.{append_known};
 ghost use Rattle.relay_action.specs.Streams.{FailedSince};
 ghost use Rattle.relay_run.specs.Faults.{worse, file_fault, said_of, worse_by, faults_text};
 ghost use Rattle.relay_run.specs.Faults.{exit_of_files};
+ghost use Rattle.relay_run.specs.ReportFile.{AreNewHandles};
+ghost use Rattle.relay_run.specs.Saving.{AreNew};
 ghost use Rattle.relay_run.specs.Saying.{IsSaid, exit_of_finish, SaysSummary, Concludes};
 ghost use Rattle.relay_run.specs.Sources.{named_count, standard_name, stands_apart};
 ghost use Rattle.relay_run.specs.Outcomes.{start_fault_text, kind_name, finish_fault_text, total};
@@ -19,11 +21,13 @@ use crate::feed::FeedFault;
 use crate::hint::say_hint;
 use crate::leasing::{config_of, say_no_epoch};
 use crate::outcome::outcome_text;
-use crate::report_file::{open_report, say_not_opened};
+use crate::report_file::{ReportFileFault, ReportOut, handles_of, open_report, say_not_opened};
 use crate::resolving::{is_known, say_unknown};
 use crate::run::{Ran, run};
-use crate::saving::save_reports;
+use crate::saving::say_saved;
 use crate::source::{STANDARD_NAME, Source, count_named, open_source};
+use crate::stopping::{SharedStop, Stop, reason_of_stop, reason_said, say_stopped, were_cut};
+use crate::telling::{SavingTell, make_tells};
 use crate::ticking::SleepPace;
 use crate::watching::{counters_of, share, start_watch, stop_watch};
 use relay_action::{ByteOut, DocKey, StdStream, write_all};
@@ -66,6 +70,8 @@ pub struct RunOptions {
     pub report: Option<String>,
     /// Whether the reports are added to what that file has. Otherwise it has to be empty, or absent.
     pub append: bool,
+    /// How many operations may be reported before no more is read; 0 means any number.
+    pub max_reports: u32,
     /// Whether to show on standard error how far the run has got.
     pub progress: bool,
 }
@@ -475,11 +481,11 @@ fn say_summary<W: Drop, O: ByteOut, E: ByteOut>(
 
 // Writes the outcome of a run, and returns the exit status and the reports, of which there are none
 // if a lane did not finish.
-fn conclude<W: Drop, O: ByteOut, E: ByteOut>(
+fn conclude<W: Drop, F: ByteOut + Drop, O: ByteOut, E: ByteOut>(
     alloc: Global,
     files: &[String],
     opened: &[bool],
-    ran: Ran<W>,
+    ran: Ran<W, F>,
     out: &mut O,
     err: &mut E,
 ) -> Result<(Exit, Vec<Report>), AllocError>
@@ -491,7 +497,12 @@ fn conclude<W: Drop, O: ByteOut, E: ByteOut>(
         (O.written out.old, O.failed out.old) (O.written out.new, O.failed out.new)
         (E.written err.old, E.failed err.old) (E.written err.new, E.failed err.new) r.0) }
 {
-    let Ran { faults, end } = ran;
+    let Ran {
+        faults,
+        end,
+        tells: _,
+        unsaved: _,
+    } = ran;
     let (text, exit) = faults_text(alloc, files, opened, &faults)?;
     let _ = say(err, &text);
     match end {
@@ -503,17 +514,24 @@ fn conclude<W: Drop, O: ByteOut, E: ByteOut>(
     }
 }
 
-// Runs the files over TCP with this config, writes the outcome, and returns the exit status and the
-// reports.
+// What the lanes of a run tell by, and what may stop it.
+#[derive(Drop)]
+struct Telling {
+    tells: Vec<SavingTell<ReportOut>>,
+    stop: Option<SharedStop>,
+}
+
+// Runs the files over TCP with this config, and writes the outcome.
 fn run_said<R, O, E>(
     rt: R,
     host: HostRuntime,
     options: &RunOptions,
     config: RelayConfig,
     sources: Vec<Option<Source>>,
+    telling: Telling,
     out: &mut O,
     err: &mut E,
-) -> Result<(Exit, Vec<Report>), AllocError>
+) -> Result<Exit, AllocError>
 where
     R: Threads + Wait + Clock + Copy + Send + 'static,
     O: ByteOut,
@@ -521,6 +539,7 @@ where
     requires host { IsTrue (is_host (string_bytes options.now.to)) }
     requires files { vec_len options.now.files ≡ config.producers }
     requires sources { vec_len sources ≡ vec_len options.now.files }
+    requires new { AreNew telling.tells.items }
 {
     let alloc = host.alloc();
     let over = host.stderr().is_terminal();
@@ -539,16 +558,60 @@ where
     };
     let watch = start_watch(rt, host, alloc, show, counters.dials)?;
     let index = options.index.as_deref();
-    let ran = run(rt, alloc, config, wires, paces, readers, index);
+    let Telling { tells, stop } = telling;
+    let ran = run(
+        rt, alloc, config, wires, paces, tells, readers, index, &stop,
+    );
     stop_watch(&rt, watch);
     match ran {
-        Ok(ran) => {
-            let (exit, reports) = conclude(alloc, &options.files, &opened, ran, out, err)?;
-            // A hint for which there is no memory is left out.
-            let _ = say_hint(alloc, &reports, config.epoch, err);
-            Ok((exit, reports))
-        }
-        Err(fault) => Ok((say_start(fault, err), Vec::new(alloc))),
+        Ok(ran) => say_ran(alloc, options, config.epoch, &opened, ran, &stop, out, err),
+        Err(fault) => Ok(say_start(fault, err)),
+    }
+}
+
+// Whether a lane of a relay that has ended like this has applied an operation.
+fn has_applied<W: Drop>(end: &Result<Summary<W>, FinishFault>) -> bool {
+    let Ok(summary) = end else {
+        return false;
+    };
+    let mut applied = false;
+    for lane in &summary.lanes {
+        applied = applied || lane.applied > 0 || lane.already > 0;
+    }
+    applied
+}
+
+// Writes the outcome of a run that was started: that of its lanes, why it has stopped, if it has, what
+// its conflicts come from, and whether its reports could not be saved.
+fn say_ran<W: Drop, F: ByteOut + Drop, O: ByteOut, E: ByteOut>(
+    alloc: Global,
+    options: &RunOptions,
+    epoch: u32,
+    opened: &[bool],
+    ran: Ran<W, F>,
+    stop: &Option<SharedStop>,
+    out: &mut O,
+    err: &mut E,
+) -> Result<Exit, AllocError>
+    requires opened { length opened.now ≡ vec_len options.now.files }
+    requires stops { vec_len ran.faults ≡ vec_len options.now.files }
+{
+    let unsaved = ran.unsaved;
+    let reason = reason_said(
+        reason_of_stop(stop),
+        were_cut(&ran.faults),
+        has_applied(&ran.end),
+    );
+    let (exit, reports) = conclude(alloc, &options.files, opened, ran, out, err)?;
+    let exit = match reason {
+        Some(reason) => say_stopped(alloc, exit, options.max_reports as u64, reason, err)?,
+        None => exit,
+    };
+    // A hint for which there is no memory is left out.
+    let _ = say_hint(alloc, &reports, epoch, err);
+    match &options.report {
+        Some(name) => say_saved(alloc, exit, name.as_str(), unsaved, err),
+        None => Ok(exit),
     }
 }
 
@@ -558,21 +621,23 @@ fn run_in_epoch<R, O, E>(
     rt: R,
     host: HostRuntime,
     options: &RunOptions,
+    telling: Telling,
     out: &mut O,
     err: &mut E,
-) -> Result<(Exit, Vec<Report>), AllocError>
+) -> Result<Exit, AllocError>
 where
     R: Threads + Wait + Clock + Copy + Send + 'static,
     O: ByteOut,
     E: ByteOut,
     requires host { IsTrue (is_host (string_bytes options.now.to)) }
     requires files { vec_len options.now.files ≡ options.now.config.producers }
+    requires new { AreNew telling.tells.items }
 {
     let alloc = host.alloc();
     let sources = open_files(&host, alloc, &options.files)?;
     match config_of(host, alloc, options) {
-        Ok(config) => run_said(rt, host, options, config, sources, out, err),
-        Err(fault) => Ok((say_no_epoch(alloc, &fault, err)?, Vec::new(alloc))),
+        Ok(config) => run_said(rt, host, options, config, sources, telling, out, err),
+        Err(fault) => say_no_epoch(alloc, &fault, err),
     }
 }
 
@@ -586,8 +651,28 @@ fn say_start<E: ByteOut>(fault: StartFault, err: &mut E) -> Exit {
     }
 }
 
-// Looks up the address, opens the file for the reports, if asked for, and does the same. Then it
-// saves them.
+// Opens the file for the reports, if they are saved, with a handle for each lane.
+fn open_handles(
+    host: &HostRuntime,
+    alloc: Global,
+    options: &RunOptions,
+) -> Result<Vec<ReportOut>, ReportFileFault>
+    ensures { IfOk result (λ v. AreNewHandles v.items) }
+{
+    let file = match &options.report {
+        Some(name) => Some(open_report(
+            host,
+            alloc,
+            name.as_str(),
+            options.append,
+            &options.files,
+        )?),
+        None => None,
+    };
+    handles_of(alloc, &file, options.config.lanes)
+}
+
+// Looks up the address, opens the file for the reports, if asked for, and does the same.
 fn run_all<R, O, E>(
     rt: R,
     host: HostRuntime,
@@ -606,16 +691,16 @@ where
     if !is_known(&host, options.to.as_str(), options.patience) {
         return say_unknown(alloc, options.to.as_str(), err);
     }
-    let Some(name) = options.report.as_deref() else {
-        let (exit, _) = run_in_epoch(rt, host, options, out, err)?;
-        return Ok(exit);
+    let handles = match open_handles(&host, alloc, options) {
+        Ok(handles) => handles,
+        Err(fault) => {
+            let name = options.report.as_deref().unwrap_or("");
+            return say_not_opened(alloc, name, fault, err);
+        }
     };
-    let file = match open_report(&host, alloc, name, options.append, &options.files) {
-        Ok(file) => file,
-        Err(fault) => return say_not_opened(alloc, name, fault, err),
-    };
-    let (exit, reports) = run_in_epoch(rt, host, options, out, err)?;
-    save_reports(alloc, exit, name, &reports, &mut StdStream::new(file), err)
+    let stop = Some(Stop::shared(alloc, options.max_reports as u64)?);
+    let tells = make_tells(alloc, handles, &stop)?;
+    run_in_epoch(rt, host, options, Telling { tells, stop }, out, err)
 }
 
 /// Writes the operations of the files to the index, each file with its own producer (`-` is
@@ -624,11 +709,15 @@ where
 /// be settled, by producer and number, and how many were applied, already applied and reported.
 /// First the host of the address is looked up, within the patience, and if it is unknown, `err` gets
 /// a line, nothing is put, and the exit status is `Device`. If asked for, the reports are also
-/// saved: the file for them is opened next, and if it cannot be, nothing is put. Then the files are
-/// opened. If the epoch is taken from the index, that comes next; if there is none, `err`
+/// saved, each as soon as it arises: the file for them is opened next, and if it cannot be, nothing
+/// is put. Then the files are opened. If the epoch is taken from the index, that comes next; if there is none, `err`
 /// gets a line that says why, nothing is put, and the exit status is `Device`, or `Memory`. If
 /// progress is asked for, standard error shows meanwhile how far the run has got, and when no
 /// connection can be made; a terminal shows the latter in any case.
+///
+/// A run stops reading once as many operations were reported as may be, or once a whole request got
+/// a status by which all more is in vain before anything was applied; what was put by then is
+/// delivered or reported. Then `err` gets a line that says why.
 ///
 /// The exit status is `Usage` if the options are invalid, name standard input twice, or save the
 /// reports in a file that is read, or in one that is not empty without being told to add to it;

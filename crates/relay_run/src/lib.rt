@@ -13,5 +13,7 @@ mod resolving;
 pub mod run;
 pub mod saving;
 pub mod source;
+pub mod stopping;
+pub mod telling;
 pub mod ticking;
 mod watching;

@@ -7,6 +7,7 @@ ghost use Rattle.relay_run.specs.Readers.{IsFedFrom, IsFed};
 ghost use Rattle.relay_run.specs.Handles.{given_to, all_given, AllEndFed};
 
 use crate::feed::{FeedFault, feed};
+use crate::stopping::{SharedStop, share_stop};
 use crossbeam_channel::Sender;
 use relay_action::ByteIn;
 use relay_ndjson::Input;
@@ -56,6 +57,7 @@ fn feed_reader<R: Wait, S: ByteIn + Drop>(
     reader: S,
     index: Option<&str>,
     producer: &mut Producer,
+    stop: &Option<SharedStop>,
 ) -> Option<FeedFault>
     ensures fed { (ops : List Operation)
         × IsFedFrom S.left S.failed (bytes_given index.entry) (Some reader) ops producer.old
@@ -66,7 +68,7 @@ fn feed_reader<R: Wait, S: ByteIn + Drop>(
     ensures producer { producer.new.producer ≡ producer.old.producer }
 {
     let mut input = Input::new(alloc, reader, index);
-    match feed(rt, &mut input, producer) {
+    match feed(rt, &mut input, producer, stop) {
         Ok(()) => None,
         Err(fault) => Some(fault),
     }
@@ -80,6 +82,7 @@ fn feed_given<R: Wait, S: ByteIn + Drop>(
     reader: Option<S>,
     index: Option<&str>,
     producer: &mut Producer,
+    stop: &Option<SharedStop>,
 ) -> Option<FeedFault>
     ensures fed { (ops : List Operation)
         × IsFedFrom S.left S.failed (bytes_given index.entry) reader ops producer.old producer.new
@@ -89,7 +92,7 @@ fn feed_given<R: Wait, S: ByteIn + Drop>(
     ensures producer { producer.new.producer ≡ producer.old.producer }
 {
     match reader {
-        Some(reader) => feed_reader(rt, alloc, reader, index, producer),
+        Some(reader) => feed_reader(rt, alloc, reader, index, producer, stop),
         None => None,
     }
 }
@@ -101,12 +104,13 @@ fn run_producer<R: Wait, S: ByteIn + Drop>(
     reader: Option<S>,
     index: Option<String>,
     producer: Producer,
+    stop: Option<SharedStop>,
 ) -> FedProducer
     ensures { IsFed S.left S.failed (option_map string_bytes index) reader producer result.closed
         result.fault }
 {
     let mut producer = producer;
-    let fault = feed_given(rt, alloc, reader, index.as_deref(), &mut producer);
+    let fault = feed_given(rt, alloc, reader, index.as_deref(), &mut producer, &stop);
     FedProducer {
         closed: producer.close(rt),
         fault,
@@ -121,6 +125,7 @@ fn spawn_producer<R, S>(
     reader: Option<S>,
     index: Option<String>,
     producer: Producer,
+    stop: Option<SharedStop>,
     ended: Sender<(), Global>,
 ) -> Result<FedThread<S>, AllocError>
 where
@@ -137,7 +142,7 @@ where
     };
     Ok(thread::spawn_with(&rt, promise, move || {
         let _ended = ended;
-        run_producer(&rt, alloc, reader, index, producer)
+        run_producer(&rt, alloc, reader, index, producer, stop)
     })?)
 }
 
@@ -152,8 +157,8 @@ fn own_text(alloc: Global, text: Option<&str>) -> Result<Option<String>, AllocEr
 }
 
 /// Starts a thread for each producer, which puts the operations of the reader at its position, if
-/// there is one, and closes. Operations without an index name get this index, if one is given. Each
-/// thread drops its clone of `ended` at its end. `Memory`: an allocation for what a thread is given
+/// there is one, and closes, unless the run is to stop before. Operations without an index name get
+/// this index, if one is given. Each thread drops its clone of `ended` at its end. `Memory`: an allocation for what a thread is given
 /// failed. `Thread`: one could not be started. Threads that were started then continue.
 pub(crate) fn spawn_producers<R, S>(
     rt: R,
@@ -161,6 +166,7 @@ pub(crate) fn spawn_producers<R, S>(
     readers: Vec<Option<S>>,
     index: Option<&str>,
     producers: Vec<Producer>,
+    stop: &Option<SharedStop>,
     ended: Sender<(), Global>,
 ) -> Result<Vec<FedThread<S>>, StartFault>
 where
@@ -176,8 +182,9 @@ where
     for producer in producers {
         let reader = readers.next().flatten();
         let own = own_text(alloc, index)?;
+        let stop = share_stop(stop)?;
         threads.reserve(1)?;
-        match spawn_producer(rt, alloc, reader, own, producer, ended.clone()?) {
+        match spawn_producer(rt, alloc, reader, own, producer, stop, ended.clone()?) {
             Ok(thread) => threads.push_reserved(thread),
             Err(_) => return Err(StartFault::Thread),
         }

@@ -1,20 +1,20 @@
 //! Opening the file in which the reports of a run are saved.
-ghost use Rattle.std.specs.Prelude.{◌≡◌, IfOk, OnOk};
-ghost use Rattle.relay_run.specs.ReportFile.{exit_of_report_file, report_file_text};
+ghost use Rattle.std.specs.Prelude.{◌≡◌, IfOk, OnOk, vec_len};
+ghost use Rattle.relay_run.specs.ReportFile.{AreNewHandles, exit_of_report_file, report_file_text};
 ghost use Rattle.relay_run.specs.Saying.{IsSaid};
 
 use crate::files::say;
 use crate::saving::say_failed;
 use crate::source::STANDARD_NAME;
-use relay_action::ByteOut;
+use relay_action::{ByteOut, StdStream};
 use relay_ndjson::LINE_LIMIT;
 use relay_report::{LastLine, last_line};
 use relay_words::Exit;
 use std::alloc::{AllocError, Global};
-use std::fs;
 use std::fs::{File, Metadata, OpenOptions};
 use std::io::{ErrorKind, Read, Seek, SeekFrom, Write};
 use std::os::unix::fs::MetadataExt;
+use std::{fs, io};
 
 /// The line about a file for the reports that a producer reads.
 pub const NOT_APART: &str =
@@ -37,6 +37,71 @@ pub(crate) enum ReportFileFault {
     Mend,
     /// An allocation failed.
     Memory,
+}
+
+impl From<AllocError> for ReportFileFault {
+    ghost use Rattle.relay_run.specs.declared.report_file.ReportFileFault.{ReportFileFault};
+
+    ghost from_gives = { λ _ fault. fault ≡ ReportFileFault.Memory };
+
+    fn from(_error: AllocError) -> ReportFileFault {
+        ReportFileFault::Memory
+    }
+}
+
+/// Where a lane saves its reports.
+#[derive(Drop)]
+pub enum ReportFile {
+    /// Nowhere: what is written is dropped.
+    Nowhere,
+    /// In a file, at its end.
+    File(File),
+}
+
+impl Write for ReportFile {
+    fn write(&mut self, buffer: &[u8]) -> io::Result<usize> {
+        match self {
+            ReportFile::Nowhere => Ok(buffer.len()),
+            ReportFile::File(file) => file.write(buffer),
+        }
+    }
+
+    fn flush(&mut self) -> io::Result<()> {
+        Ok(())
+    }
+}
+
+/// A stream into the file of the reports.
+pub(crate) type ReportOut = StdStream<ReportFile>;
+
+/// For each lane a handle of the file for the reports, or of none if they are not saved. Whatever is
+/// written by one of them goes to the end of the file.
+pub(crate) fn handles_of(
+    alloc: Global,
+    file: &Option<File>,
+    lanes: u32,
+) -> Result<Vec<ReportOut>, ReportFileFault>
+    ensures count { IfOk result (λ v. vec_len v ≡ lanes) }
+    ensures new { IfOk result (λ v. AreNewHandles v.items) }
+{
+    let mut handles = Vec::new(alloc);
+    'lanes: for lane in 0..lanes {
+        handles.reserve(1)?;
+        let handle = StdStream::new(handle_of(file)?);
+        handles.push_reserved(handle);
+    }
+    Ok(handles)
+}
+
+// One more handle.
+fn handle_of(file: &Option<File>) -> Result<ReportFile, ReportFileFault> {
+    let Some(file) = file else {
+        return Ok(ReportFile::Nowhere);
+    };
+    match file.try_clone() {
+        Ok(file) => Ok(ReportFile::File(file)),
+        Err(_) => Err(ReportFileFault::Open),
+    }
 }
 
 /// The name of standard input as a file, by which it can be compared with others.
@@ -76,12 +141,7 @@ pub(crate) fn open_report(
 // Opens a file without changing what it has. What is added goes to its end.
 fn open(host: &HostRuntime, name: &str, append: bool) -> Result<File, std::io::Error> {
     let mut how = OpenOptions::new();
-    how.create(true);
-    if append {
-        how.read(true).append(true);
-    } else {
-        how.write(true);
-    }
+    how.create(true).append(true).read(append);
     how.open(host, name)
 }
 

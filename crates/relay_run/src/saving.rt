@@ -1,36 +1,29 @@
-//! The file in which the reports of a run are saved.
+//! What is said of the file in which the reports of a run are saved.
 ghost use Rattle.std.specs.Prelude.{◌≡◌, IfOk, OnOk, OnErr};
-ghost use Rattle.relay_run.specs.Saying.{IsSaid, SavesReports, StopsSaving, file_failed_text};
+ghost use Rattle.relay_run.specs.Saying.{IsSaid, SaysSaved, file_failed_text};
 
 use crate::faults::worse;
 use crate::files::say;
 use relay_action::ByteOut;
-use relay_core::Report;
-use relay_report::report_text;
 use relay_words::Exit;
 use std::alloc::{AllocError, Global};
 
-/// Saves reports in the file with this name, one object per line, and says on `err` if a write of
-/// the file failed. Returns the exit status of a program that would otherwise have ended with
-/// `exit`. `AllocError`: allocation failed. Nothing was written to `err`, and nothing to the file
-/// either unless a write of it failed.
-pub fn save_reports<P: ByteOut, E: ByteOut>(
+/// Says on `err`, for the file with this name, if a write of a report failed. Returns the exit
+/// status of a program that would otherwise have ended with `exit`. `AllocError`: allocation failed,
+/// and nothing was said.
+pub fn say_saved<E: ByteOut>(
     alloc: Global,
     exit: Exit,
     name: &str,
-    reports: &[Report],
-    file: &mut P,
+    unsaved: bool,
     err: &mut E,
 ) -> Result<Exit, AllocError>
-    ensures ok { IfOk result (λ end. SavesReports name.now reports.now exit
-        (P.written file.old, P.failed file.old) (P.written file.new, P.failed file.new)
+    ensures ok { IfOk result (λ end. SaysSaved name.now unsaved exit
         (E.written err.old, E.failed err.old) (E.written err.new, E.failed err.new) end) }
-    ensures err { OnErr result (StopsSaving
-        (P.written file.old, P.failed file.old) (P.written file.new, P.failed file.new)
-        (E.written err.old, E.failed err.old) (E.written err.new, E.failed err.new)) }
+    ensures err { OnErr result ((E.written err.new ≡ E.written err.old)
+        × (E.failed err.new ≡ E.failed err.old)) }
 {
-    let text = report_text(alloc, reports)?;
-    if say(file, &text) {
+    if !unsaved {
         return Ok(exit);
     }
     let fault = failed_text(alloc, name, b"write")?;

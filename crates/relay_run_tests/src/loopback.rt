@@ -112,6 +112,7 @@ fn options<R: Files>(rt: &R, alloc: Global, to: String) -> Option<RunOptions> {
         timeout: 60,
         patience: 0,
         append: false,
+        max_reports: 0,
         report: None,
         progress: false,
     })

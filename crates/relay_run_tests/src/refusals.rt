@@ -1,6 +1,7 @@
 //! Runs and their output, with any one of their allocations refused (`make refusals`): they
 //! succeed, or they report the refusal and the next one succeeds.
 ghost use Rattle.std.specs.Prelude.{◌≡◌, ◌∷◌, [], IfSome};
+ghost use Rattle.relay_run.specs.Saving.{AreNew};
 ghost use Rattle.relay_wires.specs.Numbers.{numbers};
 
 use crate::loopback::CONFIG;
@@ -16,9 +17,11 @@ use relay_run::feed::{FeedFault, feed};
 use relay_run::hint::say_hint;
 use relay_run::outcome::outcome_text;
 use relay_run::run::{Ran, run};
-use relay_run::saving::save_reports;
+use relay_run::saving::say_saved;
+use relay_run::stopping::{StopReason, say_stopped};
+use relay_run::telling::{SavingTell, make_tells};
 use relay_run::ticking::SleepPace;
-use relay_threads::{FinishFaultKind, StartFault};
+use relay_threads::{FinishFaultKind, StartFault, Tell};
 use relay_words::Exit;
 use std::alloc::{AllocError, Global};
 use std::sync::Wait;
@@ -94,11 +97,15 @@ fn refused_outcome(rt: HostRuntime) {
     assert!(rt; tells(rt.alloc()) == Some(true));
 }
 
-fn stream_once(alloc: Global, input: &[u8], room: usize) -> Option<MemStream> {
+fn stream_once(alloc: Global, input: &[u8], room: usize) -> Option<MemStream>
+    ensures { IfSome result (λ s. (s.written ≡ []) × (s.failed ≡ 0)) }
+{
     MemStream::new(alloc, input.to_vec(alloc).ok()?, room, 100, 0).ok()
 }
 
-fn stream_of(alloc: Global, input: &[u8], room: usize) -> Option<MemStream> {
+fn stream_of(alloc: Global, input: &[u8], room: usize) -> Option<MemStream>
+    ensures { IfSome result (λ s. (s.written ≡ []) × (s.failed ≡ 0)) }
+{
     stream_once(alloc, input, room).or_else(|| stream_once(alloc, input, room))
 }
 
@@ -147,65 +154,98 @@ const SAVED: &[u8] =
 const NOT_SAVED: &[u8] =
     b"a-file-whose-name-has-more-than-thirty-eight-bytes.ndjson: write failed\n";
 
-/// The result of saving reports: how the program ends, if it does, how many bytes were written to
-/// the file, and what was printed.
-#[derive(Clone, Copy, PartialEq)]
-enum Saving {
-    Done(Exit, usize),
-    /// Nothing was printed, and the file is not complete.
-    Refused,
-    Wrong,
+fn tells_once(alloc: Global, room: usize) -> Option<Vec<SavingTell<MemStream>>>
+    ensures { IfSome result (λ v. AreNew v.items) }
+{
+    let file = stream_of(alloc, b"", room)?;
+    let files = one(alloc, file)?;
+    make_tells(alloc, files, &None).ok()
 }
 
-// Saves reports in a file, and checks what is printed.
-fn save(
-    alloc: Global,
-    reports: &[Report],
-    file: &mut MemStream,
-    err: &mut MemStream,
-    said: &[u8],
-) -> Saving {
-    let saved = save_reports(alloc, Exit::Reported, FILE, reports, file, err);
-    if !SAVED.starts_with(file.written()) {
-        return Saving::Wrong;
+// What one lane tells by that saves in a file which takes this many bytes.
+fn tells_of(alloc: Global, room: usize) -> Option<Vec<SavingTell<MemStream>>>
+    ensures { IfSome result (λ v. AreNew v.items) }
+{
+    tells_once(alloc, room).or_else(|| tells_once(alloc, room))
+}
+
+// Whether a report is saved, or a write of it fails, by a second call if the first was refused and
+// wrote nothing.
+fn saves_one<R: Wait>(
+    rt: &R,
+    tell: &mut SavingTell<MemStream>,
+    report: &Report,
+    room: usize,
+) -> bool {
+    if tell.reported(rt, report).is_err()
+        && (!tell.file().written().is_empty() || tell.reported(rt, report).is_err())
+    {
+        return false;
     }
-    match saved {
-        Ok(exit) if err.written() == said => Saving::Done(exit, file.written().len()),
-        Err(AllocError) if err.written().is_empty() && file.written().len() < SAVED.len() => {
-            Saving::Refused
-        }
-        _ => Saving::Wrong,
-    }
+    let written = tell.file().written();
+    let is_whole = written.len() == room.min(SAVED.len()) && SAVED.starts_with(written);
+    is_whole && tell.has_failed() == (room < SAVED.len())
 }
 
-// Saves reports in a file that takes this many bytes.
-fn save_once(alloc: Global, room: usize, said: &[u8]) -> Option<Saving> {
-    let reports = report_of(alloc)?;
-    let mut file = stream_of(alloc, b"", room)?;
-    let mut err = stream_of(alloc, b"", 1_000)?;
-    Some(save(alloc, &reports, &mut file, &mut err, said))
+fn saves<R: Wait>(rt: &R, alloc: Global, room: usize) -> Option<bool> {
+    let mut reports = report_of(alloc)?;
+    let mut tells = tells_of(alloc, room)?;
+    let report = reports.pop()?;
+    let mut tell = tells.pop()?;
+    Some(saves_one(rt, &mut tell, &report, room))
 }
-
-// Whether they are saved, or a message says that they could not be, by a second call if the first
-// was refused.
-fn saves(alloc: Global, room: usize, exit: Exit, said: &[u8]) -> bool {
-    let done = Some(Saving::Done(exit, room.min(SAVED.len())));
-    match save_once(alloc, room, said) {
-        Some(Saving::Refused) => save_once(alloc, room, said) == done,
-        saved => saved == done,
-    }
-}
-
-const ROOMS: &[(usize, Exit, &[u8])] = &[
-    (1_000, Exit::Reported, b""),
-    (100, Exit::Device, NOT_SAVED),
-];
 
 #[test]
 fn refused_saving(rt: HostRuntime) {
-    for (room, exit, said) in ROOMS {
-        assert!(rt; saves(rt.alloc(), *room, *exit, *said));
+    for room in [1_000, 100] {
+        assert!(rt; saves(&rt, rt.alloc(), room) == Some(true));
     }
+}
+
+// Whether it is said that reports could not be saved, by a second call if the first was refused and
+// said nothing.
+fn says_unsaved(alloc: Global) -> Option<bool> {
+    let mut err = stream_of(alloc, b"", 1_000)?;
+    let exit = match say_saved(alloc, Exit::Reported, FILE, true, &mut err) {
+        Ok(exit) => exit,
+        Err(AllocError) => {
+            if !err.written().is_empty() {
+                return Some(false);
+            }
+            say_saved(alloc, Exit::Reported, FILE, true, &mut err).ok()?
+        }
+    };
+    Some(exit == Exit::Device && err.written() == NOT_SAVED)
+}
+
+#[test]
+fn refused_unsaved(rt: HostRuntime) {
+    assert!(rt; says_unsaved(rt.alloc()) == Some(true));
+}
+
+const STOPPED: &[u8] =
+    b"stopped: the index answered a whole request with 401 before it had applied anything\n";
+
+// Whether it is said why a run has stopped, by a second call if the first was refused and said
+// nothing.
+fn says_stop(alloc: Global) -> Option<bool> {
+    let reason = StopReason::Hopeless { status: 401 };
+    let mut err = stream_of(alloc, b"", 1_000)?;
+    let exit = match say_stopped(alloc, Exit::Reported, 7, reason, &mut err) {
+        Ok(exit) => exit,
+        Err(AllocError) => {
+            if !err.written().is_empty() {
+                return Some(false);
+            }
+            say_stopped(alloc, Exit::Reported, 7, reason, &mut err).ok()?
+        }
+    };
+    Some(exit == Exit::Device && err.written() == STOPPED)
+}
+
+#[test]
+fn refused_stop_line(rt: HostRuntime) {
+    assert!(rt; says_stop(rt.alloc()) == Some(true));
 }
 
 const INPUT: &[u8] =
@@ -223,7 +263,7 @@ type Fed = (Result<(), FeedFault>, u64);
 // Feeds a producer, and then drops its ends.
 fn feed_all<R: Wait>(rt: &R, alloc: Global, mut producer: Producer) -> Option<Fed> {
     let mut input = Input::new(alloc, stream_of(alloc, INPUT, 0)?, None);
-    let end = feed(rt, &mut input, &mut producer);
+    let end = feed(rt, &mut input, &mut producer, &None);
     Some((end, input.line()))
 }
 
@@ -308,7 +348,7 @@ fn readers_of(alloc: Global) -> Option<Vec<Option<MemStream>>> {
 }
 
 // A run of two producers over a wire. `None`: an allocation of the test was refused.
-fn run_over<R, W>(rt: R, alloc: Global, wire: W) -> Option<Result<Ran<W>, StartFault>>
+fn run_over<R, W>(rt: R, alloc: Global, wire: W) -> Option<Result<Ran<W, MemStream>, StartFault>>
 where
     R: Threads + Wait + Clock + Copy + Send + 'static,
     W: Wire + Drop + Send + 'static,
@@ -316,27 +356,41 @@ where
 {
     let wires = one(alloc, wire)?;
     let paces = one(alloc, SleepPace::new(rt))?;
+    let tells = tells_of(alloc, 1_000)?;
     let readers = readers_of(alloc)?;
-    Some(run(rt, alloc, CONFIG, wires, paces, readers, None))
+    Some(run(rt, alloc, CONFIG, wires, paces, tells, readers, None, &None))
 }
 
 // The same over a wire in memory.
-fn run_once<R>(rt: R, alloc: Global) -> Option<Result<Ran<LoopWire>, StartFault>>
+fn run_once<R>(rt: R, alloc: Global) -> Option<Result<Ran<LoopWire, MemStream>, StartFault>>
 where
     R: Threads + Wait + Clock + Copy + Send + 'static,
 {
     run_over(rt, alloc, wire_of(alloc)?)
 }
 
+// How many lines of reports the lanes of a run have saved.
+fn saved_lines(ran: &Ran<LoopWire, MemStream>) -> usize {
+    let mut lines = 0usize;
+    for tell in &ran.tells {
+        let ends = tell.file().written().iter().filter(|byte| **byte == b'\n');
+        lines = lines.saturating_add(ends.count());
+    }
+    lines
+}
+
 // Whether a run was complete: each producer was fed its three operations, and each is applied, or
-// reported as a conflict with the write of its document by the other producer.
-fn is_whole(ran: &Ran<LoopWire>) -> bool {
+// reported as a conflict with the write of its document by the other producer, which is saved.
+fn is_whole(ran: &Ran<LoopWire, MemStream>) -> bool {
     let fed = ran.faults.iter().all(|fault| fault.is_none());
     let taken = match &ran.end {
         Ok(summary) => match summary.lanes.as_slice() {
             [lane] => {
                 let settled = lane.applied.saturating_add(lane.already);
-                lane.taken == 6 && settled.saturating_add(lane.reports.len() as u64) == 6
+                let reported = lane.reports.len();
+                lane.taken == 6
+                    && settled.saturating_add(reported as u64) == 6
+                    && saved_lines(ran) == reported
             }
             _ => false,
         },
@@ -350,13 +404,13 @@ fn is_refused(fault: &Option<FeedFault>) -> bool {
     match fault {
         Some(FeedFault::Input(fault)) => fault.kind == LineKind::Memory,
         Some(FeedFault::LaneGone) => true,
-        Some(FeedFault::NumbersSpent) => false,
+        Some(FeedFault::NumbersSpent | FeedFault::Stopped) => false,
         None => true,
     }
 }
 
 // Whether a run reports a refusal, by a fault of a producer or at its end, and nothing else.
-fn tells_refusal(ran: &Ran<LoopWire>) -> bool {
+fn tells_refusal(ran: &Ran<LoopWire, MemStream>) -> bool {
     let (told, right) = match &ran.end {
         Ok(_) => (false, true),
         Err(fault) => {
@@ -377,7 +431,7 @@ enum Came {
     Wrong,
 }
 
-fn came_of(ran: &Result<Ran<LoopWire>, StartFault>) -> Came {
+fn came_of(ran: &Result<Ran<LoopWire, MemStream>, StartFault>) -> Came {
     let refused = match ran {
         Ok(ran) if is_whole(ran) => return Came::Whole,
         Ok(ran) => tells_refusal(ran),

@@ -54,16 +54,25 @@ Standard error gets a line for each file that could not be put in full, once all
 its operations before that were put. `lane N: KIND` means that a lane did not finish, and `start: KIND` that
 nothing was started.
 
-With --report FILE the reports are also saved, one JSON object per line: cause, id, index, number and
+With --report FILE the reports are also saved, each as soon as it arises, so that a run that is killed leaves
+those that it had. The file has one JSON object per line, in no particular order: cause, id, index, number and
 producer; kind, status and sends if the cause has them; and epoch if it is above 0. Unlike in the printed
 lines, blanks and line ends in an id are escaped. The file has to be new or empty, or --append adds to it and
 cuts off a line that an earlier run left torn. `FILE: create failed` and `FILE: append failed` mean that the
-file could not be opened or mended, and then nothing was put; `FILE: write failed` that it could not be
-written, after everything was printed.
+file could not be opened or mended, and then nothing was put; `FILE: write failed`, at the end,
+that a report could not be written.
 
 The exit status is 0 on success, 1 if the command line is invalid, 2 if a line of a file is, 3 if a file, an
 output or a lane's thread failed, 4 if memory ran out, and 5 if operations were reported; if several apply,
 the first of 4, 3, 2 and 5.
+
+A run takes no more input once --max-reports operations were reported, and if the index answers a whole request
+with 401, 403, 404 or 3xx before it has applied anything. What was read by then is delivered or reported, and
+standard error gets one of these lines; the exit status is 5 after the first, and 3 after the second. An input
+that is a pipe ends with the operation that arrives next.
+
+    stopped after N reports: --max-reports
+    stopped: the index answered a whole request with STATUS before it had applied anything
 
 While the index is down, each request that cannot be sent is an attempt, and so is each that is not answered
 within --timeout. Between the attempts of an operation its lane pauses for 1, 2, 4, 8, 16, 32 and 64
@@ -75,7 +84,7 @@ flight when it went down.
 A lane holds at most --held operations, and --capacity more wait in front of it, each with its document of up
 to 1048576 bytes and less than 2 KB more: at most 1.4 GB per lane with the defaults, and 4 MB if documents
 have 1 KB. A --capacity below twice --count is slower, since the next request is then not ready when one is
-answered. Reports are kept in memory until the end: a run that is killed prints and saves none.
+answered. Reports are kept in memory until the end: a run that is killed prints none.
 
 Versions are the epoch times 2^40 plus a count from 1 in each lane. Every version that the index has stored for
 these documents must be at most the epoch times 2^40, so each run over the same documents needs an epoch above
@@ -178,6 +187,15 @@ const NUMBERS: &[NumberOption] = &[
     },
 ];
 
+// The option for the number of reports after which a run stops.
+const MAX_REPORTS: NumberOption = NumberOption {
+    name: "max-reports",
+    least: 0,
+    most: u32::MAX as u64,
+    default: "10000",
+    help: "Take no more input once so many operations were reported, finish what was read, and end with status 5; 0 means any number",
+};
+
 // An option whose value is a length of time, at most `most` units of `unit` milliseconds.
 struct DurationOption {
     name: &'static str,
@@ -259,7 +277,7 @@ fn with_outputs<'a>(alloc: Global, command: Command<'a>) -> Result<Command<'a>, 
         .value_name("FILE")
         .action(ArgAction::Set)
         .help(
-            "Save what could not be settled to this file as NDJSON, one object per line; it is opened before anything is put, has to be new or empty, and is written at the end",
+            "Save what could not be settled to this file as NDJSON, one object per line; it is opened before anything is put, has to be new or empty, and is written as they arise",
         );
     let append = Arg::new(alloc, "append")
         .long("append")
@@ -274,7 +292,8 @@ fn with_outputs<'a>(alloc: Global, command: Command<'a>) -> Result<Command<'a>, 
         .help(
             "Show progress on standard error every second, and a message as soon as no connection can be made; a terminal gets these messages without this option too",
         );
-    command.arg(report)?.arg(append)?.arg(progress)
+    let limit = number(alloc, &MAX_REPORTS);
+    command.arg(report)?.arg(append)?.arg(limit)?.arg(progress)
 }
 
 /// Its help and its options.
@@ -420,6 +439,7 @@ fn options_of(
         patience: durations.patience,
         report,
         append: matches.get_flag("append"),
+        max_reports: number_of(matches, "max-reports"),
         progress: matches.get_flag("progress"),
     })
 }

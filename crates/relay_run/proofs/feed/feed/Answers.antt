@@ -21,3 +21,8 @@ pub returns-in_err-feed_next-clause-feeds : goal.returns-in_err-feed_next-clause
 returns-in_err-feed_next-clause-feeds g c =
     let p = err_from_is_err_and c.from_residual.result c.from_residual.ensures.1 in
     rw (p.1, p.2) (fed_stops _ _ _ _ _ _ (Err c.in_err-feed_next.field-0.0) c.operations.invariant.fed c.in_err-feed_next.ensures.next)
+
+pub returns-in_err-feed_next-clause-asked : goal.returns-in_err-feed_next-clause-asked
+returns-in_err-feed_next-clause-asked g c =
+    let p = err_from_is_err_and c.from_residual.result c.from_residual.ensures.1 in
+    rw (p.1, p.2) (λ is. absurd (c.in_err-feed_next.ensures.reads is))

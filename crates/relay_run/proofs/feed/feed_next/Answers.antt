@@ -1,6 +1,6 @@
 use Rattle.std.proofs.lemmas.Result.{err_from_is_err_and}
 use Rattle.relay_ndjson.proofs.Readings.{answers_of}
-use Rattle.relay_run.proofs.Feeding.{refused_stops}
+use Rattle.relay_run.proofs.Feeding.{refused_stops, not_stopped}
 use Rattle.relay_run.proofs.feed.feed_next.Goals as goal
 
 pub returns-in_ok-put-in-Ok-Some-clause-next : goal.returns-in_ok-put-in-Ok-Some-clause-next
@@ -13,3 +13,8 @@ returns-in_err-put-in-Ok-Some-clause-next g c =
     let p = err_from_is_err_and c.from_residual.result c.from_residual.ensures.1 in
     let taken = answers_of _ _ _ c.requires (rw c.in-Ok-Some.field-0-is at c.in-Ok-Some.ensures.lines) in
     rw (p.1, p.2) (refused_stops _ _ _ _ taken.0 (c.in-Ok-Some.key, c.in-Ok-Some.action) c.in_err-put-in-Ok-Some.field-0.0 taken.1 c.in_err-put-in-Ok-Some.ensures.puts)
+
+pub returns-in_err-put-in-Ok-Some-clause-reads : goal.returns-in_err-put-in-Ok-Some-clause-reads
+returns-in_err-put-in-Ok-Some-clause-reads g c =
+    let p = err_from_is_err_and c.from_residual.result c.from_residual.ensures.1 in
+    rw (p.1, p.2) (λ is. not_stopped c.in-Ok-Some.key c.in-Ok-Some.action _ _ c.in_err-put-in-Ok-Some.field-0.0 c.in_err-put-in-Ok-Some.ensures.puts is)

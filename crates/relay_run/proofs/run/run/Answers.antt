@@ -1,14 +1,19 @@
 use Rattle.std.proofs.Common.{List, ap, sym, subst, ◌∙◌}
+use Rattle.std.specs.declared.vec.Vec.{Vec}
+use Rattle.std.proofs.lemmas.Result.{err_from_is_err_and}
 use Rattle.relay_core.specs.declared.config.RelayConfig.{RelayConfig}
 use Rattle.relay_ndjson.specs.Metadata.{bytes_given}
 use Rattle.relay_run.specs.Readers.{named_ops}
 use Rattle.relay_run.specs.Handles.{Given, AllEndFed}
+use Rattle.relay_run.specs.Saving.{Saver, AllKeep, SayFailed}
+use Rattle.relay_threads.specs.DeliveryOfAll.{AllDelivered}
 use Rattle.relay_run.proofs.Handing.{rows_of_all, count_back, control_back}
 use Rattle.relay_run.proofs.Ending.{all_fed, fed_and_put, delivered_as}
+use Rattle.relay_run.proofs.Savers.{of_end, saves_at_end, counts_no_wires}
 use Rattle.relay_run.proofs.run.run.Goals as goal
 
-pub finish-requires-clause-count : goal.finish-requires-clause-count
-finish-requires-clause-count g c κs within =
+pub finish_telling-requires-clause-count : goal.finish_telling-requires-clause-count
+finish_telling-requires-clause-count g c κs within =
     let left = g.S.ByteStream.left in
     let failed = g.S.ByteStream.failed in
     let ended = subst (λ (gs : List (Given _)). AllEndFed left failed gs c.in_ok-closed.closed.items c.in_ok-closed.faults.items) c.in_ok-threads.ensures.given c.in_ok-closed.ensures in
@@ -16,8 +21,8 @@ finish-requires-clause-count g c κs within =
     c.in_ok-closed.closed.ok.0 ∙ count_back _ _ all.identities ∙ sym c.in_ok-relay.producers.ok.0 ∙ c.in_ok-relay.ensures.count
     ∙ sym (ap (λ (k : RelayConfig). k.producers) c.in_ok-relay.ensures.config)
 
-pub finish-requires-clause-rows : goal.finish-requires-clause-rows
-finish-requires-clause-rows g c κs within =
+pub finish_telling-requires-clause-rows : goal.finish_telling-requires-clause-rows
+finish_telling-requires-clause-rows g c κs within =
     let left = g.S.ByteStream.left in
     let failed = g.S.ByteStream.failed in
     let ended = subst (λ (gs : List (Given _)). AllEndFed left failed gs c.in_ok-closed.closed.items c.in_ok-closed.faults.items) c.in_ok-threads.ensures.given c.in_ok-closed.ensures in
@@ -45,5 +50,23 @@ returns-clause-delivered g c =
       queues,
       x.ops,
       x.fed,
-      delivered_as g.W.Wire.describes g.W.Wire.fits c.in_ok-relay.relay.config c.args.config c.in_ok-relay.relay.wires c.args.wires.items (λ p. named_ops c.args.config.epoch p 1 (x.ops p)) c.in_ok-closed.closed.items c.finish.result c.in_ok-relay.ensures.config c.in_ok-relay.ensures.wires x.put c.finish.ensures.delivered,
+      of_end (λ (v : Vec Saver _). v.items) (λ s. AllDelivered g.W.Wire.describes g.W.Wire.fits c.args.config (λ p. named_ops c.args.config.epoch p 1 (x.ops p)) 0 c.args.wires.items s.lanes.items)
+          c.finish_telling.result c.apart-end.result.0 c.apart-end.result.1.items c.apart-end.ensures.ok c.apart-end.ensures.err
+          (delivered_as g.W.Wire.describes g.W.Wire.fits c.in_ok-relay.relay.config c.args.config c.in_ok-relay.relay.wires c.args.wires.items (λ p. named_ops c.args.config.epoch p 1 (x.ops p)) c.in_ok-closed.closed.items c.finish_telling.result c.in_ok-relay.ensures.config c.in_ok-relay.ensures.wires x.put c.finish_telling.ensures.delivered),
     )
+
+pub returns-clause-saved : goal.returns-clause-saved
+returns-clause-saved g c =
+    saves_at_end (λ (v : Vec Saver _). v.items) g.W.Wire.describes g.W.Wire.fits c.in_ok-relay.relay.config _ c.in_ok-relay.relay.wires c.in_ok-relay.relay.tells c.args.tells.items c.finish_telling.result c.apart-end.result.0 c.apart-end.result.1.items c.apart-end.ensures.ok c.apart-end.ensures.err
+    c.in_ok-relay.ensures.tells c.requires.new (subst AllKeep c.deref.ensures.value c.have_failed-unsaved.ensures.keep) c.finish_telling.ensures.told
+
+pub returns-clause-unsaved : goal.returns-clause-unsaved
+returns-clause-unsaved g c = subst (λ ts. SayFailed ts c.have_failed-unsaved.result) c.deref.ensures.value c.have_failed-unsaved.ensures.failed
+
+pub returns-clause-wire_count : goal.returns-clause-wire_count
+returns-clause-wire_count g c = c.in_ok-relay.ensures.wire_count
+
+pub returns-in_err-threads-clause-wire_count : goal.returns-in_err-threads-clause-wire_count
+returns-in_err-threads-clause-wire_count g c =
+    let p = err_from_is_err_and c.from_residual-in_err-threads.result c.from_residual-in_err-threads.ensures.1 in
+    rw (p.1, p.2) ((λ is. absurd (counts_no_wires _ c.in_err-threads.ensures.fault is)), (λ x. absurd (c.in_ok-relay.ensures.wire_count.1 x)))

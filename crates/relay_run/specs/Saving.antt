@@ -1,0 +1,76 @@
+-- What a lane of a run is told of, and what it saves of that in its file.
+use Rattle.std.specs.Prelude.{◌≡◌, ℕ, ◌<◌, Bool, true, false, List, [], ◌∷◌, ◌++◌, Option, Some, None, flat_map, map}
+use Rattle.relay_results.specs.Words.{Mem}
+use Rattle.relay_delivery.specs.Machine as delivery
+use Rattle.relay_core.specs.declared.report.Report.{Report}
+use Rattle.relay_core.specs.declared.success.Success.{Success}
+use Rattle.relay_core.specs.Walk.{report_of}
+use Rattle.relay_report.specs.Reports.{report_line}
+use Rattle.relay_threads.specs.declared.summary.LaneSummary.{LaneSummary}
+use Rattle.relay_threads.specs.Told.{Told, applied_of, reports_of}
+
+-- What was written to the file of a lane, if it shows that; how many calls of it failed; whether a write of a report
+-- failed; and what the lane told of: the operations that ended as applied, and the reports, each in order.
+pub record Saver : Type 0 where
+  pub given : Option (List ℕ)
+  pub failures : ℕ
+  pub failed : Bool
+  pub applied : List Success
+  pub reported : List Report
+
+-- of these, what was told of the operations of one producer
+abbrev pub told_by : Saver → ℕ → Option Told
+told_by s p = Some (record { applied = applied_of p s.applied; reported = reports_of p (map report_of s.reported) })
+
+-- a file was given exactly this text, if it shows what it was given
+abbrev pub IsExactly : Option (List ℕ) → List ℕ → Type 0
+IsExactly None text = Unit {0}
+IsExactly (Some given) text = given ≡ text
+
+-- A file was given the line of each of these reports, in order, and nothing else, and no call of it failed; or a write
+-- failed, and a call of it has failed.
+abbrev pub Keeps : Bool → Option (List ℕ) → ℕ → List Report → Type 0
+Keeps false given failures reports = IsExactly given (flat_map report_line reports) × (failures ≡ 0)
+Keeps true given failures reports = 0 < failures
+
+abbrev pub KeepsTold : Saver → Type 0
+KeepsTold s = Keeps s.failed s.given s.failures s.reported
+
+-- one more report was saved, or a write of it failed, or one had failed before
+abbrev pub KeepsOneMore : Report → (before after : Bool) → (given now : Option (List ℕ)) → (failures failed : ℕ) → Type 0
+KeepsOneMore r before after given now failures failed =
+    (reports : List Report) → Keeps before given failures reports → Keeps after now failed (reports ++ r ∷ [])
+
+-- ---- the lanes of a run
+
+-- nothing was written to any of these files, and no call of them failed
+abbrev pub AreUnwritten : {F : Type 0} → (F → Option (List ℕ)) → (F → ℕ) → List F → Type 0
+AreUnwritten written failed [] = Unit {0}
+AreUnwritten written failed (f ∷ fs) = (IsExactly (written f) [] × (failed f ≡ 0)) × AreUnwritten written failed fs
+
+-- none of them was told anything
+abbrev pub AreNew : List Saver → Type 0
+AreNew [] = Unit {0}
+AreNew (s ∷ ss) = ((s.applied ≡ []) × (s.reported ≡ [])) × AreNew ss
+
+-- whether a write of a report failed for one of them
+abbrev pub SayFailed : List Saver → Bool → Type 0
+SayFailed ss true = (s : Saver) × Mem s ss × (s.failed ≡ true)
+SayFailed ss false = (s : Saver) → Mem s ss → s.failed ≡ false
+
+-- what each of them was told of is kept
+abbrev pub AllKeep : List Saver → Type 0
+AllKeep ss = (s : Saver) → Mem s ss → KeepsTold s
+
+-- A lane with these reports was told of exactly them: of those of each producer in the order of the lane. And its file
+-- was given their lines, or a write failed.
+pub record Saves (s : Saver) (reports : List Report) : Type 0 where
+  pub same : (p : ℕ) → reports_of p (map report_of s.reported) ≡ reports_of p (map report_of reports)
+  pub keeps : KeepsTold s
+
+-- this holds for all lanes, in order
+abbrev pub AllSave : {W : Type 0} → List Saver → List (LaneSummary W) → Type 0
+AllSave [] [] = Unit {0}
+AllSave [] (l ∷ ls) = ⊥
+AllSave (s ∷ ss) [] = ⊥
+AllSave (s ∷ ss) (l ∷ ls) = Saves s l.reports.items × AllSave ss ls

@@ -1,0 +1,169 @@
+//! What a lane of a run tells by: it saves each report as soon as it arises.
+ghost use Rattle.std.specs.Prelude.{◌≡◌, ◌++◌, ◌∷◌, [], IfOk, OnErr, map, vec_len};
+ghost use Rattle.relay_run.specs.Saving.{IsExactly, KeepsOneMore, AreUnwritten, AreNew, SayFailed};
+ghost use Rattle.relay_run.specs.Saving.{AllKeep};
+
+use crate::files::say;
+use crate::stopping::{SharedStop, share_stop};
+use http_server::Log;
+use relay_action::ByteOut;
+use relay_core::{Report, Success};
+use relay_report::append_report;
+use relay_threads::Tell;
+use std::alloc::{AllocError, Global};
+use std::marker::Model;
+use std::sync::Wait;
+
+/// What a lane of a run tells by. It saves each report in a file, of which it has a handle of its
+/// own, as soon as it is told of it: the line of the report, in one write if the file takes that.
+/// After a write that failed it saves no more. It also tells a stop, if it has one, what it is told.
+/// Contracts see what was written, whether a write
+/// failed, and what it was told.
+#[derive(Drop)]
+pub struct SavingTell<P: ByteOut> {
+    alloc: Global,
+    file: P,
+    // Whether a write of a report failed.
+    failed: bool,
+    stop: Option<SharedStop>,
+    // What it was told, for proofs only.
+    applied: Log<Success, ()>,
+    reported: Log<Report, ()>,
+}
+
+impl<P: ByteOut> Model for SavingTell<P> {
+    ghost use Rattle.std.specs.Prelude.{map};
+    ghost use Rattle.relay_run.specs.Saving.{Saver, Keeps};
+
+    ghost Value = { Saver };
+
+    ghost view = { λ t. record {
+      given = P.written t.file;
+      failures = P.failed t.file;
+      failed = t.failed;
+      applied = map (λ x. x.0) t.applied.items;
+      reported = map (λ x. x.0) t.reported.items;
+    } };
+
+    ghost invariant = { λ t. Keeps t.failed (P.written t.file) (P.failed t.file)
+        (map (λ x. x.0) t.reported.items) };
+}
+
+impl<P: ByteOut> SavingTell<P> {
+    ghost use Rattle.relay_run.specs.Saving.{KeepsTold};
+
+    /// It saves in this file, to which nothing was written yet. Memory is allocated for each report.
+    pub fn new(alloc: Global, file: P, stop: Option<SharedStop>) -> SavingTell<P>
+        requires { IsExactly (P.written file) [] × (P.failed file ≡ 0) }
+        ensures new { (result.applied ≡ []) × (result.reported ≡ []) }
+    {
+        SavingTell {
+            alloc,
+            file,
+            failed: false,
+            stop,
+            applied: Log::new(),
+            reported: Log::new(),
+        }
+    }
+
+    /// The file.
+    pub fn file(&self) -> &P
+        ensures { (P.written result.now ≡ self.now.given)
+            × (P.failed result.now ≡ self.now.failures) }
+    {
+        &self.file
+    }
+
+    /// Whether a write of a report failed.
+    pub fn has_failed(&self) -> bool
+        ensures failed { result ≡ self.now.failed }
+        ensures keeps { KeepsTold self.now }
+    {
+        self.failed
+    }
+}
+
+impl<P: ByteOut> Tell for SavingTell<P> {
+    ghost use Rattle.relay_run.specs.Saving.{told_by};
+
+    ghost told = { λ t p. told_by t p };
+
+    fn applied<R: Wait>(&mut self, _rt: &R, successes: &[Success]) {
+        if let Some(stop) = &self.stop {
+            stop.tell_applied(successes.len());
+        }
+        note_all(&mut self.applied, successes);
+    }
+
+    fn reported<R: Wait>(&mut self, _rt: &R, report: &Report) -> Result<(), AllocError> {
+        self.failed = save(self.alloc, &mut self.file, self.failed, report)?;
+        if let Some(stop) = &self.stop {
+            stop.tell_reported(&report.cause);
+        }
+        self.reported = self.reported.and(report, &());
+        Ok(())
+    }
+
+    fn ended<R: Wait>(&mut self, _rt: &R) {}
+}
+
+// Notes for proofs that it was told of these operations.
+fn note_all(noted: &mut Log<Success, ()>, successes: &[Success])
+    ensures { map (λ x. x.0) noted.new.items
+        ≡ map (λ x. x.0) noted.old.items ++ successes.now }
+{
+    for success in successes {
+        *noted = noted.and(success, &());
+    }
+}
+
+// Saves a report, unless a write failed before. Returns whether one has failed.
+fn save<P: ByteOut>(
+    alloc: Global,
+    file: &mut P,
+    failed: bool,
+    report: &Report,
+) -> Result<bool, AllocError>
+    ensures ok { IfOk result (λ now. KeepsOneMore report.now failed now
+        (P.written file.old) (P.written file.new) (P.failed file.old) (P.failed file.new)) }
+    ensures err { OnErr result ((P.written file.new ≡ P.written file.old)
+        × (P.failed file.new ≡ P.failed file.old)) }
+{
+    if failed {
+        return Ok(true);
+    }
+    let mut line = Vec::new(alloc);
+    append_report(alloc, &mut line, report)?;
+    Ok(!say(file, &line))
+}
+
+/// For each of these files, to which nothing was written yet, what a lane tells by that saves its
+/// reports there, and tells the stop of them. `AllocError`: allocation failed.
+pub fn make_tells<P: ByteOut + Drop>(
+    alloc: Global,
+    files: Vec<P>,
+    stop: &Option<SharedStop>,
+) -> Result<Vec<SavingTell<P>>, AllocError>
+    requires { AreUnwritten P.written P.failed files.items }
+    ensures count { IfOk result (λ v. vec_len v ≡ vec_len files) }
+    ensures new { IfOk result (λ v. AreNew v.items) }
+{
+    let mut tells = Vec::with_capacity(alloc, files.len())?;
+    for file in files {
+        tells.push(SavingTell::new(alloc, file, share_stop(stop)?))?;
+    }
+    Ok(tells)
+}
+
+/// Whether a write of a report failed in one of the lanes.
+pub fn have_failed<P: ByteOut + Drop>(tells: &[SavingTell<P>]) -> bool
+    ensures failed { SayFailed tells.now result }
+    ensures keep { AllKeep tells.now }
+{
+    let mut failed = false;
+    for tell in tells {
+        failed = tell.has_failed() || failed;
+    }
+    failed
+}
