@@ -21,7 +21,7 @@ BUILD_SECONDS, TEST_SECONDS = 900, 300
 # Freed memory is used again at once, since one case compares how much memory two runs take, and a run may take longer.
 CHECKED = {**os.environ, "ASAN_OPTIONS": "quarantine_size_mb=0:thread_local_quarantine_size_kb=0", "SECONDS_FOR_A_RUN": "300"}
 # The end-to-end suites in which time does not matter. They run beside the others: with run-time checks each of these sets takes minutes.
-TIMELESS = (("pick",), ("world", "command_line"), ("lines", "apply"))
+TIMELESS = (("pick",), ("world", "command_line"), ("scripts",), ("lines", "apply"))
 
 
 def programs():
