@@ -142,9 +142,13 @@ fn becomes(alloc: Global, states: bool) -> Result<(u32, u32), Fail> {
     if states {
         index.state_versions();
     }
-    match world_over(alloc, THREE_VERSIONS, index)? {
-        Some(mut world) if sends_again(alloc, &mut world)? => Ok(settled_by(alloc, &mut world)),
-        _ => Ok((0, 0)),
+    let Some(mut world) = world_over(alloc, THREE_VERSIONS, index)? else {
+        return Ok((0, 0));
+    };
+    if sends_again(alloc, &mut world)? {
+        Ok(settled_by(alloc, &mut world))
+    } else {
+        Ok((0, 0))
     }
 }
 
