@@ -1,5 +1,5 @@
 # The commands of this repository. `rt` is the kit's command.
-.PHONY: demo try check edits test refusals build bench
+.PHONY: demo try check edits test refusals build bench compare
 
 # Proves and builds the program, its crates in parallel.
 build:
@@ -48,3 +48,8 @@ refusals:
 bench:
 	@python3 tests/build.py relay relay_bench
 	python3 bench/run.py
+
+# The relay and other bulk helpers on the same faults: what each loses, doubles, reorders or misreports.
+compare:
+	@python3 tests/build.py relay
+	python3 bench/compare.py
