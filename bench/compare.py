@@ -154,9 +154,10 @@ def drawn(rows):
     most = max(sum(it.values()) for it in sums.values()) or 1
     bottom = 46 + step * len(sums)
     parts = ["<style>%s</style>" % STYLE]
-    for place, count in enumerate(COUNTS):
-        x = 8 + (place % 5) * 152
-        parts.append('<rect class="%s" x="%d" y="8" width="12" height="12"/><text x="%d" y="19">%s</text>' % (count, x, x + 18, LABELS[count]))
+    x = 8.0
+    for count in COUNTS:
+        parts.append('<rect class="%s" x="%.0f" y="8" width="12" height="12"/><text x="%.0f" y="19">%s</text>' % (count, x, x + 18, LABELS[count]))
+        x += 32 + 6.8 * len(LABELS[count])
     for place, (name, of) in enumerate(sums.items()):
         y, x = 42 + step * place, float(left)
         parts.append('<text x="%d" y="%d" text-anchor="end">%s</text>' % (left - 8, y + 14, name.replace("`", "")))
