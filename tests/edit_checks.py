@@ -1,4 +1,5 @@
 """Checks a crate with some of its texts changed, over what earlier checks kept."""
+import contextlib
 import itertools
 import os
 import re
@@ -6,14 +7,34 @@ import shutil
 import subprocess
 import tempfile
 
-from crates import CRATES, below, lines_of
+from crates import CRATES, TOP, below, lines_of
 
+# Where `gate.py` keeps what `rt ci` proved of a crate.
+SEEDS = os.path.join(TOP, "out", "seeds")
 KIT = os.path.dirname(os.path.dirname(os.path.realpath(shutil.which("rt") or "rt")))
 PARTS = ("src", "specs", "proofs")
 
 
+class Kept:
+    """What the checks of a crate begin with: what was proved of the crate as it is, or, if nothing was, what the check before it left."""
+
+    def __init__(self, crate, after_gate):
+        places = [os.path.join(SEEDS, crate)] * after_gate + [os.path.join(CRATES, crate, "out", "incremental")]
+        self.proved, self.left = next(filter(os.path.isdir, places), None), tempfile.TemporaryDirectory(prefix="relay-edits-kept-")
+
+    @contextlib.contextmanager
+    def folder(self):
+        """Gives a folder for one check, which may change it."""
+        if self.proved is None:
+            yield self.left.name
+            return
+        with tempfile.TemporaryDirectory(prefix="relay-edits-kept-") as own:
+            shutil.copytree(self.proved, own, dirs_exist_ok=True, copy_function=link)
+            yield own
+
+
 def check(crate, texts, kept, only):
-    """Checks the crate with these texts in place of its own, over what earlier checks kept. Returns the status and the output."""
+    """Checks the crate with these texts in place of its own, or only these functions of it. Returns the status and the output."""
     own = lines_of()[crate].partition(":")[2].split()
     words = [os.path.join(KIT, "bin", "rattle"), "check", "--crate-name", crate, "src/lib.rt", "-L", "dependency=%s/rlibs" % KIT]
     for name in ["std", *own]:
@@ -21,15 +42,15 @@ def check(crate, texts, kept, only):
     for name in below(crate):
         words += ["-L", "dependency=" + os.path.dirname(rlib(name))]
     words += ["--antt-project", "%s/rattle/logic/antt-project.json" % KIT, "--logic-built", "%s/logic_built" % KIT]
-    words += ["--jobs", "1", "--incremental", kept, *itertools.chain(*(("--only", name) for name in only))]
-    with tempfile.TemporaryDirectory(prefix="relay-edits-") as room:
+    words += ["--jobs", "1", *itertools.chain(*(("--only", name) for name in only))]
+    with tempfile.TemporaryDirectory(prefix="relay-edits-") as room, kept.folder() as over:
         for part in PARTS:
             if os.path.isdir(os.path.join(CRATES, crate, part)):
                 shutil.copytree(os.path.join(CRATES, crate, part), os.path.join(room, part))
         for path, text in texts.items():
             with open(os.path.join(room, path), "w", encoding="utf-8") as file:
                 file.write(text)
-        ran = subprocess.run(words, cwd=room, stdin=subprocess.DEVNULL, stdout=subprocess.PIPE, stderr=subprocess.STDOUT, text=True, errors="replace")
+        ran = subprocess.run([*words, "--incremental", over], cwd=room, stdin=subprocess.DEVNULL, stdout=subprocess.PIPE, stderr=subprocess.STDOUT, text=True, errors="replace")
     return ran.returncode, ran.stdout
 
 

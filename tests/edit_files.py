@@ -1,7 +1,8 @@
 """Reads an edit's file, finds the function that it changes, and tells whether the prover refuses that function.
 
 The format is that of the kit's must-fail edits: a line `file: PATH`, then pairs of lines `old: TEXT` and `new: TEXT`, made one after
-another; each old text must occur once. An edit has a place if it changes one function alone, body or contract.
+another; each old text must occur once. An edit has a place if it changes one function alone, body or contract. An edit of a
+definition may have a line `law: FUNCTION`, which names the function whose proof it makes fail, as the prover prints it.
 """
 import collections
 import functools
@@ -96,7 +97,7 @@ def functions_of(crate, path, text):
 class Edit:
     def __init__(self, crate, path):
         self.crate, self.name, self.pairs = crate, "%s/%s" % (crate, os.path.basename(path)), []
-        file = old = None
+        file = old = self.law = None
         for line in text_of(path).split("\n"):
             if line.startswith("file: "):
                 file = line[len("file: ") :].strip()
@@ -105,6 +106,8 @@ class Edit:
             elif line.startswith("new:") and file and old:
                 self.pairs.append((file, old, line[len("new:") :].removeprefix(" ")))
                 old = None
+            elif line.startswith("law: "):
+                self.law = line[len("law: ") :].strip()
         self.place = self.found()
 
     def text(self, path):
@@ -131,7 +134,7 @@ class Edit:
             text = self.text(path) if path.startswith("src/") else ""
             line = text.count("\n", 0, text.find(old)) + 1 if text.count(old) == 1 else 0
             places.add(next((it for it in functions_of(self.crate, path, text) if it.first <= line <= it.last), None))
-        return places.pop() if len(places) == 1 else None
+        return places.pop() if len(places) == 1 and not self.law else None
 
     def refused(self, said):
         """Returns true if the prover refuses this function for an error of its own."""
@@ -144,8 +147,12 @@ class Edit:
         unread = [text for text in inside if UNREAD.search(text)]
         if unread:
             raise Unusable("the prover cannot read it: " + unread[0][:200])
-        verdict = re.search(r"^fn %s::%s: (not proved|no proof)" % (self.crate, re.escape(place.name)), said, re.M)
-        return verdict is not None and any(not UNREAD.search(text) for text in inside + proofs)
+        return is_refused(self.crate, place.name, said) and any(not UNREAD.search(text) for text in inside + proofs)
+
+
+def is_refused(crate, name, said):
+    """Returns true if the prover says that this function is not proved."""
+    return re.search(r"^fn %s::%s: (not proved|no proof)" % (crate, re.escape(name)), said, re.M) is not None
 
 
 def errors_of(said):

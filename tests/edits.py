@@ -4,10 +4,12 @@ Each is a wrong body that the prover must refuse, in the format of the kit's mus
 its function calls and not on their bodies, so edits of different functions are tried in one check. Such an edit is refused if the
 prover reports an error of the function itself, at its own lines or in its own proof files: that it calls a function which another
 edit broke does not count. An edit that its batch does not refuse is tried again alone. So is an edit of more than one function or of
-a definition, for which any error counts. The run fails if an edit is not refused, or cannot be applied, compiled or read.
+a definition, for which any error counts. If it names a law, only that function is checked, which is quicker, and must be refused.
+The run fails if an edit is not refused, or cannot be applied, compiled or read.
 
-With --gate, the libraries below are those that `rt ci` has just built, and the first check of a crate begins with what `gate.py`
-kept of it. Otherwise `rt check` builds the libraries that changed, and the first check begins with what `rt check` kept.
+With --gate, the libraries below are those that `rt ci` has just built, and each check of a crate begins with what `gate.py` kept of
+it, or if it kept nothing, with what the check before it did. Otherwise `rt check` builds the libraries that changed, and each check
+begins with what `rt check` kept.
 
 The edits of a crate that were all refused are not tried again until it, a crate below it or one of them changes.
 """
@@ -18,18 +20,14 @@ import hashlib
 import itertools
 import os
 import re
-import shutil
 import sys
-import tempfile
 import threading
 import time
 
 from crates import CRATES, TOP, add_file, files_below, lines_of, sum_of
-from edit_checks import check, is_ready, is_verdict, link
-from edit_files import UNREAD, Edit, Unusable, errors_of, text_of
+from edit_checks import Kept, check, is_ready, is_verdict
+from edit_files import UNREAD, Edit, Unusable, errors_of, is_refused, text_of
 
-# Where `gate.py` keeps what `rt ci` proved of a crate.
-SEEDS = os.path.join(TOP, "out", "seeds")
 # Where the checksums of crates are kept whose edits were all refused.
 DONE = os.path.join(TOP, "out", "edits")
 SCRIPTS = ("crates.py", "edit_checks.py", "edit_files.py", "edits.py")
@@ -39,17 +37,19 @@ MEMORY, TELL = 3 << 30, 60
 
 def alone(edit, kept):
     """Tries one edit. Returns None if it is refused, or else why that fails."""
-    status, said = check(edit.crate, edit.made({}), kept, [edit.place.name] if edit.place else [])
+    status, said = check(edit.crate, edit.made({}), kept, [edit.place.name] if edit.place else [edit.law] if edit.law else [])
     errors = errors_of(said)
     told = "; ".join("%s:%d: %s" % error for error in errors[:2])[:300] or said.strip().rpartition("\n")[2][:300]
     if status == 0:
-        return "NOT REFUSED: the function is still proved" if edit.place else "NOT REFUSED: the crate is still proved"
+        return "NOT REFUSED: the %s is still proved" % ("function" if edit.place else "law" if edit.law else "crate")
     if not is_verdict(said):
         raise Unusable("it did not reach the prover, or the prover gave no verdict: " + told)
     if edit.place:
         return None if edit.refused(said) else "NOT REFUSED by an error of its own function: " + told
     if any(UNREAD.search(text) and path in (it for it, _, _ in edit.pairs) for path, _, text in errors):
         raise Unusable("the prover cannot read it: " + told)
+    if edit.law and not is_refused(edit.crate, edit.law, said):
+        return "NOT REFUSED by its law: " + told
     return None if errors else "NOT REFUSED by an error: " + told
 
 
@@ -88,19 +88,16 @@ class Run:
         print("edits: %s: %d tried, %d of them alone" % (crate, len(edits), len(left)), flush=True)
 
     def each(self, crate, edits):
-        """Tries these edits, each check over what the one before it kept. Returns those that were tried alone."""
+        """Tries these edits, and returns those that were tried alone."""
         rows = collections.defaultdict(list)
         for edit in edits:
             rows[edit.place and edit.place.proofs].append(edit)
         left = rows.pop(None, [])
-        begins = [os.path.join(SEEDS, crate)] * self.after_gate + [os.path.join(CRATES, crate, "out", "incremental")]
-        with tempfile.TemporaryDirectory(prefix="relay-edits-kept-") as kept:
-            for begin in list(filter(os.path.isdir, begins))[:1]:
-                shutil.copytree(begin, kept, dirs_exist_ok=True, copy_function=link)
-            for batch in itertools.zip_longest(*rows.values()):
-                left += self.together([it for it in batch if it], kept)
-            for edit in left:
-                self.alone(edit, kept)
+        kept = Kept(crate, self.after_gate)
+        for batch in itertools.zip_longest(*rows.values()):
+            left += self.together([it for it in batch if it], kept)
+        for edit in left:
+            self.alone(edit, kept)
         return left
 
     def together(self, edits, kept):

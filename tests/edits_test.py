@@ -1,8 +1,9 @@
 """Tests `edits.py` on a small crate: `python3 tests/edits_test.py`, at the top.
 
-Five wrong bodies must be refused in one check, and in none if nothing has changed since. Beside them, these must fail, each by
-its name: an edit that changes nothing that a contract says, one whose function is refused only because it calls an edited one,
-one that breaks only another function, one that cannot be read, and one whose old text is gone.
+Five wrong bodies must be refused in one check, and in none if nothing has changed since; so must a wrong constant, by the law that
+its edit names. Beside them, these must fail, each by its name: an edit that changes nothing that a contract says, one whose function
+is refused only because it calls an edited one, one that breaks only another function, one that its law does not refuse, one that
+cannot be read, and one whose old text is gone.
 """
 import os
 import re
@@ -70,6 +71,15 @@ pub fn part(f: u32) -> u32
 {
     f / 2
 }
+
+const MOST: u32 = 10;
+
+/// A law: the constant is ten.
+pub fn most_is_ten() -> u32
+    ensures { result ≡ 10 }
+{
+    MOST
+}
 """
 WRONG = {
     "larger_first": ("if a < b { b } else { a }", "if a < b { a } else { a }"),
@@ -78,10 +88,13 @@ WRONG = {
     "same_less": ("let copy = e;", "let copy = e / 2;"),
     "smaller_second": ("if c < d { c } else { d }", "if c < d { d } else { d }"),
 }
+# An edit that names a law.
+LAW = {"most_eleven": ("u32 = 10;", "u32 = 11;\nlaw: most_is_ten")}
 # What the script must say of each other edit.
 OTHERS = {
     "after_next_only_calls": ("next(n) + 1", "1 + next(n)", "NOT REFUSED"),
     "next_weaker_contract": ("ensures { result ≡ n + 1 }", "ensures { result ≤ n + 1 }", "NOT REFUSED"),
+    "most_by_another_law": ("u32 = 10;", "u32 = 12;\nlaw: nothing", "NOT REFUSED"),
     "part_harmless": ("f / 2", "f / 3", "NOT REFUSED"),
     "part_old_text_gone": ("f / 4", "f / 5", "BAD EDIT"),
     "part_unreadable": ("f / 2", "f / unknown", "BAD EDIT"),
@@ -122,6 +135,8 @@ def main():
         results = [(status, said, counts) == (0, {}, [("5", "1", "5")])]
         status, said, counts = tried(folder, WRONG)
         results.append((status, said, counts) == (0, {}, [("5", "0", "5")]))
+        status, said, counts = tried(folder, {**WRONG, **LAW})
+        results.append((status, said, counts) == (0, {}, [("6", "2", "6")]))
         status, said, counts = tried(folder, {**WRONG, **OTHERS})
         results.append(status == 1 and said == expected and [it[2] for it in counts] == ["5"])
     print("%d passed, %d failed" % (sum(results), len(results) - sum(results)))

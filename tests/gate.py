@@ -21,8 +21,7 @@ import sys
 import threading
 import time
 
-from edit_checks import link
-from edits import SEEDS
+from edit_checks import SEEDS, link
 
 TICKS = os.sysconf("SC_CLK_TCK")
 HERE = os.path.dirname(os.path.abspath(__file__))

@@ -7,6 +7,8 @@ RELAY = os.path.abspath(sys.argv[1])
 RESULTS = {"passed": 0, "failed": 0}
 # How long one run may take: a program with run-time checks is slower, and `try.py` gives it longer.
 SECONDS = int(os.environ.get("SECONDS_FOR_A_RUN", "60"))
+# Set by `try.py`, since a program with run-time checks is slow: what takes many minutes then is left to `make test`, and each case says so.
+FEWER = "FEWER_CASES" in os.environ
 
 
 def check(name, right, found=""):
@@ -21,6 +23,11 @@ def skip(name, package):
         check(name, False, "needs %s, which is not installed" % package)
     else:
         print("SKIPPED: %s needs %s, which is not installed" % (name, package))
+
+
+def leave(what):
+    """Says what `make test` does here and `make try` leaves out."""
+    print("LEFT TO make test: %s" % what)
 
 
 def run(args, stdin=b"", **more):

@@ -2,7 +2,9 @@
 
 Each test crate is built with run-time checks and run by `rt try --test`, as many at once as there are processors. `rt try` also
 builds the program so, and removes it when it ends: it is told to run `relay stub`, and while that waits for a connection the
-program is copied. Then the end-to-end suites run on the copy, some beside each other. The last line is 'N passed, M failed', counted over the lines above.
+program is copied. The end-to-end suites run on the copy: those in which time does not matter beside the crates, and the others
+after them. With run-time checks the program is slow, so some of what `make test` does is left out: each suite says what. The last
+line is 'N passed, M failed', counted over the lines above.
 """
 import concurrent.futures
 import os
@@ -19,9 +21,13 @@ from crates import CRATES, lines_of
 TESTS = os.path.dirname(os.path.abspath(__file__))
 BUILD_SECONDS, TEST_SECONDS = 900, 300
 # Freed memory is used again at once, since one case compares how much memory two runs take, and a run may take longer.
-CHECKED = {**os.environ, "ASAN_OPTIONS": "quarantine_size_mb=0:thread_local_quarantine_size_kb=0", "SECONDS_FOR_A_RUN": "300"}
-# The end-to-end suites in which time does not matter. They run beside the others: with run-time checks each of these sets takes minutes.
-TIMELESS = (("pick",), ("world", "command_line"), ("scripts",), ("lines", "apply"))
+CHECKED = {**os.environ, "ASAN_OPTIONS": "quarantine_size_mb=0:thread_local_quarantine_size_kb=0", "SECONDS_FOR_A_RUN": "300", "FEWER_CASES": "1"}
+# The end-to-end suites in which time does not matter, the longest first. They run one after another, beside the test crates.
+TIMELESS = (("pick",), ("scripts",), ("lines", "apply", "command_line"), ("world",))
+# The others run once the crates have ended, these sets of them and the rest beside each other. Each takes about as long.
+TIMED = (("stop", "reply"), ("run", "outage", "several"), ("epoch", "option", "progress"))
+# The test crates that take longest, the longest first. The others follow, those with the most crates below them first.
+LONGEST = ("relay_run_tests", "relay_telling_tests", "relay_http_tests", "relay_threads_tests", "relay_wires_tests", "relay_commands_tests")
 
 
 def programs():
@@ -59,9 +65,7 @@ def build(place):
                 os.kill(number, signal.SIGTERM)
                 copied = True
     said = trial.communicate()[0]
-    if not copied:
-        print(said.decode(errors="replace")[-2000:])
-    return copied
+    return copied, "built" if copied else "not built", "" if copied else said.decode(errors="replace")
 
 
 def tried(crate):
@@ -72,39 +76,51 @@ def tried(crate):
     return done.returncode == 0 and bool(counts), "%s passed, %s failed" % counts[-1] if counts else "no result", done.stdout
 
 
-def suite(name, *words):
+def suite(*words):
     """Runs a suite, and returns whether it passes, the last line that it prints, and the whole output."""
-    words = [sys.executable, os.path.join(TESTS, name), *words]
+    words = [sys.executable, os.path.join(TESTS, words[0]), *words[1:]]
     done = subprocess.run(words, env=CHECKED, stdout=subprocess.PIPE, stderr=subprocess.STDOUT, text=True, errors="replace")
     return done.returncode == 0, (done.stdout.strip() or "no output").split("\n")[-1], done.stdout
 
 
-def tell(name, passed, counts, said):
-    """Prints the result of a test crate or a suite, and the end of its output if it failed or skipped anything."""
-    print("%-24s %-6s %s" % (name, "ok" if passed else "FAILED", counts), flush=True)
-    for line in said.strip().split("\n")[-30:] if not passed else re.findall(r"^SKIPPED.*", said, re.M):
-        print("    " + line)
+def told(name, run, *given):
+    """Makes a trial, and prints its result: of a failure the end of the output, or else what it skipped. Returns whether it passes."""
+    began = time.monotonic()
+    passed, counts, said = run(*given)
+    lines = said.strip().split("\n")[-30:] if not passed else re.findall(r"^(?:SKIPPED|LEFT TO).*", said, re.M)
+    heading = "%-32s %-6s %s, in %.0f s" % (name, "ok" if passed else "FAILED", counts, time.monotonic() - began)
+    print("\n".join([heading, *("    " + it for it in lines)]), flush=True)
     return passed
+
+
+def beside(built, program):
+    """Runs the suites in which time does not matter, once the program is built. Returns whether each passes."""
+    return [told("tests/run.py " + " ".join(names), suite, "run.py", program, *names) for names in TIMELESS] if built.result() else []
+
+
+def timed(program):
+    """Runs the other suites beside each other, and returns whether each passes."""
+    rest = ["--except", *sum(TIMELESS + TIMED, ())]
+    sets = {**{" ".join(names): names for names in TIMED}, "the others": rest}
+    with concurrent.futures.ThreadPoolExecutor(len(sets) + 1) as pool:
+        running = [pool.submit(told, "tests/run.py " + name, suite, "run.py", program, *words) for name, words in sets.items()]
+        running.append(pool.submit(told, "tests/http_fixtures.py", suite, "http_fixtures.py"))
+    return [it.result() for it in running]
 
 
 def main():
     crates = [name for name in lines_of() if name.endswith("_tests")]
-    print("running the tests of %d crates and of the program, built without proof; `make test` proves them" % len(crates), flush=True)
+    crates.sort(key=lambda it: (LONGEST.index(it) if it in LONGEST else len(LONGEST), -len(lines_of()[it])))
+    print("running the tests of %d crates and of the program, built without proof; `make test` proves them, and tests more" % len(crates), flush=True)
     began = time.monotonic()
     with tempfile.TemporaryDirectory() as folder:
         program = os.path.join(folder, "relay")
-        with concurrent.futures.ThreadPoolExecutor(len(os.sched_getaffinity(0))) as pool:
-            built = pool.submit(build, program)
-            trials = {pool.submit(tried, name): name for name in reversed(crates)}
-            results = [tell(trials[it], *it.result()) for it in concurrent.futures.as_completed(trials)]
-        results.append(tell("relay", built.result(), "built" if built.result() else "not built", ""))
-        # The cases of the other suites are about time too, so they run once the processors have time for them.
-        sets = {"run.py " + " ".join(names): ["run.py", program, *names] for names in TIMELESS}
-        sets["run.py, the others"] = ["run.py", program, "--except", *sum(TIMELESS, ())]
-        sets["http_fixtures.py"] = ["http_fixtures.py"]
-        with concurrent.futures.ThreadPoolExecutor(len(sets)) as pool:
-            running = {pool.submit(suite, *words): name for name, words in sets.items()} if built.result() else {}
-            results += [tell("tests/" + running[it], *it.result()) for it in concurrent.futures.as_completed(running)]
+        with concurrent.futures.ThreadPoolExecutor(1) as one, concurrent.futures.ThreadPoolExecutor(len(os.sched_getaffinity(0))) as pool:
+            built = pool.submit(told, "relay", build, program)
+            suites = one.submit(beside, built, program)
+            trials = [pool.submit(told, name, tried, name) for name in crates]
+        results = [built.result(), *(it.result() for it in trials), *suites.result()]
+        results += timed(program) if built.result() else []
     print("%d passed, %d failed, in %.0f minutes" % (sum(results), len(results) - sum(results), (time.monotonic() - began) / 60))
     sys.exit(not all(results))
 

@@ -2,7 +2,7 @@
 import subprocess
 import tempfile
 
-from program import RELAY, case, check, directory, endless
+from program import FEWER, RELAY, case, check, directory, endless, leave
 from world_scripts import play_all
 
 THREE = "world 1 1 10 10 10 4096 0 3 1 0 1000"
@@ -10,6 +10,8 @@ TWO = "world 1 1 10 10 10 4096 0 2 1 0 1000"
 EPOCHS, DEAL = 4194303, 1099511627775
 LIMIT = 1114112
 LINES = 1000000
+# How many random scripts are played over an empty index, and over one that states the versions that it has from before.
+PLAYED, PLAYED_STATED = (200, 300) if FEWER else (2000, 3000)
 
 
 def played(name, first, rows, end=None):
@@ -317,13 +319,20 @@ def limits():
     bad("a lone carriage return past the limit", first + line + b"\r", 2)
     case("a first line at the limit", ["world"], b"world " + b"0" * (LIMIT - len(first) + 1) + first[6:], end, b"", 0)
     bad("a first line past it", b"world " + b"0" * (LIMIT - len(first) + 2) + first[6:], 1)
+    endless("world", "yes x | tr -d '\\n'", b"line 1: BadLine\n")
+    endless("world", "yes ''", b"line 1: BadLine\n")
+
+
+def million():
+    """A script has at most a million lines."""
+    if FEWER:
+        return leave("three scripts of a million lines, at the limit of `relay world` and past it")
+    first, end = THREE.encode() + b"\n", b"accepted 0 0\nfinished no\n"
     takes = b"take 0\n" * (LINES - 1)
     answers = b"no NothingQueued\n" * (LINES - 1)
     case("a million lines", ["world"], first + takes, answers + end, b"", 0)
     bad("the line after a million", first + takes + b"take 0\n", LINES + 1, answers)
     bad("an open line after a million", first + takes + b"x", LINES + 1, answers)
-    endless("world", "yes x | tr -d '\\n'", b"line 1: BadLine\n")
-    endless("world", "yes ''", b"line 1: BadLine\n")
 
 
 def devices():
@@ -376,11 +385,13 @@ def before():
 
 def scripts():
     """Random scripts; run `world_scripts.py` by hand to play any number of them."""
-    _, failures = play_all(RELAY, 2000)
-    check("2,000 random scripts", not failures, failures[:5])
-    _, failures = play_all(RELAY, 3000, 10000, stated=True)
-    check("3,000 random scripts over versions from before", not failures, failures[:5])
+    if FEWER:
+        leave("5,000 random scripts, of which %d are played here" % (PLAYED + PLAYED_STATED))
+    _, failures = play_all(RELAY, PLAYED)
+    check("%d random scripts" % PLAYED, not failures, failures[:5])
+    _, failures = play_all(RELAY, PLAYED_STATED, 10000, stated=True)
+    check("%d random scripts over versions from before" % PLAYED_STATED, not failures, failures[:5])
 
 
-GROUPS = (rows, too_large, restarts, refusals, many, bad_lines, limits, devices, prompt, before)
+GROUPS = (rows, too_large, restarts, refusals, many, bad_lines, limits, million, devices, prompt, before)
 SCRIPTS = (scripts,)
