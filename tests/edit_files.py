@@ -1,8 +1,8 @@
 """Reads an edit's file, finds the function that it changes, and tells whether the prover refuses that function.
 
 The format is that of the kit's must-fail edits: a line `file: PATH`, then pairs of lines `old: TEXT` and `new: TEXT`, made one after
-another; each old text must occur once. An edit has a place if it changes one function alone, body or contract. An edit of a
-definition may have a line `law: FUNCTION`, which names the function whose proof it makes fail, as the prover prints it.
+another; each old text must occur once. An edit has a place if it changes one function alone, body or contract. Any other
+edit may have a line `law: FUNCTION`, which names the function whose proof it makes fail, as the prover prints it.
 """
 import collections
 import functools
