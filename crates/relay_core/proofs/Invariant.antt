@@ -7,6 +7,7 @@ use Rattle.relay_action.specs.declared.action.ActionKind.{ActionKind}
 use Rattle.relay_results.specs.declared.outcome.Outcome.{Outcome}
 use Rattle.relay_results.specs.declared.decide.ItemVerdict.{ItemVerdict}
 use Rattle.relay_results.specs.declared.decide.ItemVerdict.TheVariants as verdict
+use Rattle.relay_results.specs.declared.cause.LastTry.{LastTry}
 use Rattle.relay_results.specs.Fates.{Fate, Flies, Applied, Already, Retried, Halved, Reported, Tries, fate_of_entry, fate_of_verdict}
 use Rattle.relay_results.specs.Documents.{is_delete}
 use Rattle.relay_results.specs.Outside.{stored_in}
@@ -98,9 +99,9 @@ left_met clock max Retried h (Some w) rest f = omega arith
 left_met clock max (Halved cap) h (Some w) rest f = let l = f cap refl in omega (arith, l)
 left_met clock max (Reported c) h (Some w) rest f = omega arith
 
-again_halves : (t : Tries) (b : Bool) (cap : ℕ) → (if b then Retried else Reported (Rattle.relay_results.specs.declared.cause.Cause.TheVariants.GaveUp t.sends)) ≡ Halved cap → ⊥
-again_halves t true cap e = cc
-again_halves t false cap e = cc
+again_halves : (t : Tries) (tried : LastTry) (b : Bool) (cap : ℕ) → (if b then Retried else Reported (Rattle.relay_results.specs.declared.cause.Cause.TheVariants.GaveUp t.sends tried)) ≡ Halved cap → ⊥
+again_halves t tried true cap e = cc
+again_halves t tried false cap e = cc
 
 verdict_halves : (t : Tries) (o : Outcome) (v : ItemVerdict) (cap : ℕ) → fate_of_verdict t o v ≡ Halved cap → ⊥
 verdict_halves t o verdict.Applied cap e = cc
@@ -111,12 +112,12 @@ verdict_halves t o verdict.GaveUp cap e = cc
 verdict_halves t o verdict.Refused cap e = cc
 
 -- an entry halves nothing
-entry_halves : (t : Tries) (kind : ActionKind) (o : Option Outcome) (cap : ℕ) → fate_of_entry t kind o ≡ Halved cap → ⊥
-entry_halves t kind None cap e = again_halves t (nat_lt t.attempts t.max) cap e
-entry_halves t kind (Some o) cap e = verdict_halves t o (verdict_of kind o.status (is_some o.error) (may_be_own (stored_in o.error) t.version) t.sends t.attempts t.max) cap e
+entry_halves : (t : Tries) (kind : ActionKind) (o : Option Outcome) (tried : LastTry) (cap : ℕ) → fate_of_entry t kind o tried ≡ Halved cap → ⊥
+entry_halves t kind None tried cap e = again_halves t tried (nat_lt t.attempts t.max) cap e
+entry_halves t kind (Some o) tried cap e = verdict_halves t o (verdict_of kind o.status (is_some o.error) (may_be_own (stored_in o.error) t.version) t.sends t.attempts t.max) cap e
 
-way_halves : (whole : Way) (len : ℕ) (f : Fate) (h : Kept) → ((cap : ℕ) → f ≡ Halved cap → ⊥) → IsHalf whole len → (1 < len → len ≤ h.cap) → Falls (fate_or whole f) h
-way_halves way.ByEntry len f h none half room cap e = absurd (none cap e)
+way_halves : (whole : Way) (len : ℕ) (f : LastTry → Fate) (h : Kept) → ((tried : LastTry) (cap : ℕ) → f tried ≡ Halved cap → ⊥) → IsHalf whole len → (1 < len → len ≤ h.cap) → Falls (fate_or whole f) h
+way_halves (way.ByEntry tried) len f h none half room cap e = absurd (none tried cap e)
 way_halves (way.Reported status) len f h none half room cap e = absurd (cc)
 way_halves (way.Halved n) len f h none half room cap e =
     let some = half.0 in
@@ -157,15 +158,15 @@ of_retry t o verdict.Retry e = refl
 of_retry t o verdict.GaveUp e = absurd (cc)
 of_retry t o verdict.Refused e = absurd (cc)
 
-again_tries : (t : Tries) (b : Bool) → (if b then Retried else Reported (Rattle.relay_results.specs.declared.cause.Cause.TheVariants.GaveUp t.sends)) ≡ Retried → b ≡ true
-again_tries t true e = refl
-again_tries t false e = absurd (cc)
+again_tries : (t : Tries) (tried : LastTry) (b : Bool) → (if b then Retried else Reported (Rattle.relay_results.specs.declared.cause.Cause.TheVariants.GaveUp t.sends tried)) ≡ Retried → b ≡ true
+again_tries t tried true e = refl
+again_tries t tried false e = absurd (cc)
 
 pub retried_tries : (t : Tries) (kind : ActionKind) (whole : Way) (o : Option Outcome) → fate_or whole (fate_of_entry t kind o) ≡ Retried → t.attempts < t.max
 retried_tries t kind (way.Reported status) o e = absurd (cc)
 retried_tries t kind (way.Halved cap) o e = absurd (cc)
-retried_tries t kind way.ByEntry None e = ltb-true _ _ (again_tries t (nat_lt t.attempts t.max) e)
-retried_tries t kind way.ByEntry (Some o) e = ltb-true _ _ (and_right (o.status == 429 || o.status == 503) (nat_lt t.attempts t.max) (verdict_retry
+retried_tries t kind (way.ByEntry tried) None e = ltb-true _ _ (again_tries t tried (nat_lt t.attempts t.max) e)
+retried_tries t kind (way.ByEntry tried) (Some o) e = ltb-true _ _ (and_right (o.status == 429 || o.status == 503) (nat_lt t.attempts t.max) (verdict_retry
     (not (is_some o.error) && (nat_le 200 o.status && nat_lt o.status 300))
     (not (is_some o.error) && (is_delete kind && o.status == 404))
     (o.status == 409 && (nat_le 2 t.sends && may_be_own (stored_in o.error) t.version))

@@ -9,6 +9,8 @@ pub mod Going
 pub mod Entering
 pub mod Passing
 pub mod Saying
+pub mod Rejecting
+pub mod Explained
 pub mod Valid
 pub mod Reading
 pub mod Settling

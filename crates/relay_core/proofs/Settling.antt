@@ -11,6 +11,7 @@ use Rattle.relay_results.specs.Words.{one_if}
 use Rattle.relay_results.specs.Documents.{document_of}
 use Rattle.relay_results.specs.Outside.{Answer}
 use Rattle.relay_results.specs.declared.cause.Cause.TheVariants as cause
+use Rattle.relay_results.specs.declared.cause.LastTry.{LastTry}
 use Rattle.relay_results.specs.Fates.{Fate, Flies, Applied, Already, Retried, Halved, Reported, Tries, tried_again, fate, fate_of_entry, fate_of_verdict}
 use Rattle.relay_delivery.specs.Machine.{Config, fate_of, reported_one, reports_from, how_many}
 use Rattle.relay_delivery.specs.Lane.{held_of, kept_entry, kept_entries}
@@ -33,9 +34,9 @@ settles Retried = true
 settles (Halved cap) = true
 settles (Reported c) = true
 
-again_if : (t : Tries) (b : Bool) → nat_lt t.attempts t.max ≡ b → settles (tried_again t) ≡ true
-again_if t true e = ap (λ b. settles (if b then Retried else Reported (cause.GaveUp t.sends))) e
-again_if t false e = ap (λ b. settles (if b then Retried else Reported (cause.GaveUp t.sends))) e
+again_if : (t : Tries) (tried : LastTry) (b : Bool) → nat_lt t.attempts t.max ≡ b → settles (tried_again t tried) ≡ true
+again_if t tried true e = ap (λ b. settles (if b then Retried else Reported (cause.GaveUp t.sends tried))) e
+again_if t tried false e = ap (λ b. settles (if b then Retried else Reported (cause.GaveUp t.sends tried))) e
 
 verdict_settles : (t : Tries) (o : Outcome) (v : ItemVerdict) → settles (fate_of_verdict t o v) ≡ true
 verdict_settles t o verdict.Applied = refl
@@ -45,12 +46,12 @@ verdict_settles t o verdict.Retry = refl
 verdict_settles t o verdict.GaveUp = refl
 verdict_settles t o verdict.Refused = refl
 
-entry_settles : (t : Tries) (kind : ActionKind) (o : Option Outcome) → settles (fate_of_entry t kind o) ≡ true
-entry_settles t kind None = again_if t (nat_lt t.attempts t.max) refl
-entry_settles t kind (Some o) = verdict_settles t o _
+entry_settles : (t : Tries) (kind : ActionKind) (o : Option Outcome) (tried : LastTry) → settles (fate_of_entry t kind o tried) ≡ true
+entry_settles t kind None tried = again_if t tried (nat_lt t.attempts t.max) refl
+entry_settles t kind (Some o) tried = verdict_settles t o _
 
-or_settles : (whole : Way) (f : Fate) → settles f ≡ true → settles (fate_or whole f) ≡ true
-or_settles way.ByEntry f e = e
+or_settles : (whole : Way) (f : LastTry → Fate) → ((tried : LastTry) → settles (f tried) ≡ true) → settles (fate_or whole f) ≡ true
+or_settles (way.ByEntry tried) f e = e tried
 or_settles (way.Reported status) f e = refl
 or_settles (way.Halved cap) f e = refl
 

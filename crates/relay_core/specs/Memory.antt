@@ -145,7 +145,7 @@ TellsAs a ws os = (p : ℕ) → status_at ws a p ≡ status_in (slice_get os p)
 
 -- a request that is halved had two or more writes, and the cap is half their number
 abbrev pub IsHalf : Way → ℕ → Type 0
-IsHalf way.ByEntry len = Unit {0}
+IsHalf (way.ByEntry tried) len = Unit {0}
 IsHalf (way.Reported status) len = Unit {0}
 IsHalf (way.Halved cap) len = (2 ≤ len) × (cap ≡ len / 2)
 

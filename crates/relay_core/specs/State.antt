@@ -25,6 +25,7 @@ use Rattle.relay_core.specs.declared.settled.Settled.{Settled}
 use Rattle.relay_core.specs.declared.success.Success.{Success}
 use Rattle.relay_core.specs.Successes.{successes_from}
 use Rattle.relay_core.specs.Limits.{is_valid}
+use Rattle.relay_core.specs.Walk.{explained}
 use Rattle.relay_core.specs.Rule.{item_of, chosen_entries, batch_of}
 
 -- The config; the clock, what it took, holds, sent and reported, in the words of delivery; the flush mark, which is
@@ -174,6 +175,10 @@ after_answer_to s number a = record s {
   flights = flight.without_batch number s.flights;
   successes = s.successes ++ successes_from s.core.config (from_zero number) (writes_of number s) a (delivery.held_of s.core.held);
 }
+
+-- the report at a place has this reason
+abbrev pub explained_at : ℕ → Option (List ℕ) → State → State
+explained_at place given s = record s { core = record s.core { reports = explained place given s.core.reports } }
 
 abbrev pub without_successes : State → State
 without_successes s = record s { successes = [] }

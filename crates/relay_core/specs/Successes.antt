@@ -13,8 +13,8 @@ use Rattle.relay_core.specs.declared.success.Success.{Success}
 abbrev pub status_at : List Write → Answer → ℕ → Option ℕ
 status_at ws Unanswered p = None
 status_at ws (Items os) p = if matches os ws then option_map (λ (o : Outcome). o.status) (slice_get os p) else None
-status_at ws (Whole status) p = None
-status_at ws Lost p = None
+status_at ws (Whole status reason) p = None
+status_at ws (Lost why) p = None
 
 -- the status of the entry of an operation, if it is in flight
 abbrev pub status_of : List Write → Answer → Option Place → Option ℕ

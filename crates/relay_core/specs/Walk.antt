@@ -1,7 +1,7 @@
 -- The held list in memory, and the walks over it.
 pub use Rattle.relay_held.specs.Operations.{waits_here, more, launch_one, back_at, halved_at}
 pub use Rattle.relay_held.specs.Queues.{with_first, without_first, first_of, OnlyFirstsFly, is_of, is_later_kept, is_candidate_kept, is_eligible_kept, first_due_kept}
-use Rattle.std.specs.Prelude.{ℕ, ◌+◌, List, [], ◌∷◌, ◌++◌, Option, Some, None, option_map, Bool, true, false, ◌&&◌, ◌==◌, drop, filter, map, slice_get, option_to_list, if◌then◌else◌}
+use Rattle.std.specs.Prelude.{ℕ, zero, suc, ◌+◌, List, [], ◌∷◌, ◌++◌, Option, Some, None, option_map, Bool, true, false, ◌&&◌, ◌==◌, drop, filter, map, slice_get, option_to_list, if◌then◌else◌}
 use Rattle.relay_action.specs.declared.write.Write.{Write}
 use Rattle.relay_batch.specs.declared.item.BatchItem.{BatchItem}
 use Rattle.relay_results.specs.declared.outcome.Outcome.{Outcome}
@@ -10,7 +10,9 @@ use Rattle.relay_results.specs.Fates.{fate_of_entry}
 use Rattle.relay_results.specs.Fates as of
 use Rattle.relay_delivery.specs.Machine as machine
 use Rattle.relay_delivery.specs.Lane.{backoff}
+use Rattle.relay_results.specs.declared.cause.Cause.{Cause}
 use Rattle.relay_results.specs.declared.cause.Cause.TheVariants as cause
+use Rattle.relay_results.specs.declared.cause.LastTry.{LastTry}
 use Rattle.relay_held.specs.declared.kept.Kept.{Kept}
 use Rattle.relay_held.specs.declared.kept.Spot.{Spot}
 use Rattle.relay_held.specs.declared.kept.Candidate.{Candidate}
@@ -51,10 +53,10 @@ freight (h ∷ hs) is = if is_next is h then option_to_list h.write ++ freight h
 
 -- ---- an answer arrives
 
--- the fate by the status of the whole request, or else by the operation's entry
-abbrev pub fate_or : Way → of.Fate → of.Fate
-fate_or way.ByEntry f = f
-fate_or (way.Reported status) f = of.Reported (cause.Request status)
+-- the fate by the status of the whole request, without its reason, or else by the operation's entry
+abbrev pub fate_or : Way → (LastTry → of.Fate) → of.Fate
+fate_or (way.ByEntry tried) f = f tried
+fate_or (way.Reported status) f = of.Reported (cause.Request status None)
 fate_or (way.Halved cap) f = of.Halved cap
 
 -- the fate in the definitions that corresponds to one in the code
@@ -67,6 +69,20 @@ said (code.Reported c) = of.Reported c
 
 abbrev pub report_of : Report → machine.Report
 report_of r = record { name = r.name; document = document_of r.key; cause = r.cause }
+
+-- a cause with this reason, if it is the status of a whole request
+abbrev pub with_reason : Option (List ℕ) → Cause → Cause
+with_reason given (cause.Refused status kind reason) = cause.Refused status kind reason
+with_reason given (cause.Request status reason) = cause.Request status given
+with_reason given (cause.Conflict stored reason) = cause.Conflict stored reason
+with_reason given (cause.GaveUp sends tried) = cause.GaveUp sends tried
+with_reason given cause.Spent = cause.Spent
+
+-- the report at a place has this reason
+abbrev pub explained : ℕ → Option (List ℕ) → List machine.Report → List machine.Report
+explained place given [] = []
+explained zero given (r ∷ rs) = record r { cause = with_reason given r.cause } ∷ rs
+explained (suc place) given (r ∷ rs) = r ∷ explained place given rs
 
 abbrev pub fate_met : ℕ → Way → Kept → List Outcome → of.Fate
 fate_met max whole h os = fate_or whole (fate_of_entry (record { version = h.version; sends = h.sends; attempts = h.attempts; max = max }) h.kind (slice_get os 0))

@@ -8,14 +8,15 @@ ghost use Rattle.relay_core.specs.Walk.{said, fate_or};
 
 use relay_action::{ActionKind, Text};
 use relay_held::Kept;
-use relay_results::{Cause, ErrorDetail, ItemVerdict, Outcome, verdict};
+use relay_results::{Cause, ErrorDetail, ItemVerdict, LastTry, Outcome, verdict};
 
 /// What the answer to a request as a whole means for its operations.
 #[derive(Clone, Copy, Debug)]
 pub enum Way {
-    /// Each is settled by its entry; one without an entry is retried.
-    ByEntry,
-    /// Each is reported with this status.
+    /// Each is settled by its entry. One without an entry is retried, and this is what became of its
+    /// last try.
+    ByEntry(LastTry),
+    /// Each is reported with this status, and without a reason.
     Reported(u16),
     /// Each waits to be sent again, in requests of at most this many.
     Halved(u32),
@@ -109,14 +110,18 @@ fn fate_by(kind: ActionKind, outcome: Outcome, tries: Tries) -> Fate
         ItemVerdict::Already => Fate::Already,
         ItemVerdict::Conflict => Fate::Reported(conflict(outcome.error)),
         ItemVerdict::Retry => Fate::Retried,
-        ItemVerdict::GaveUp => Fate::Reported(Cause::GaveUp { sends: tries.sends }),
+        ItemVerdict::GaveUp => Fate::Reported(Cause::GaveUp {
+            sends: tries.sends,
+            last: LastTry::Item(outcome.status),
+        }),
         ItemVerdict::Refused => Fate::Reported(refusal(outcome.status, outcome.error)),
     }
 }
 
-// What the entry at its place means for it, if there is one.
-fn fate_next(kind: ActionKind, entry: Option<Outcome>, tries: Tries) -> Fate
-    ensures { said result ≡ fate_of_entry (tries_of tries) kind entry }
+// What the entry at its place means for it, if there is one. Otherwise this is what became of its
+// last try.
+fn fate_next(kind: ActionKind, entry: Option<Outcome>, tries: Tries, last: LastTry) -> Fate
+    ensures { said result ≡ fate_of_entry (tries_of tries) kind entry last }
 {
     match entry {
         Some(outcome) => fate_by(kind, outcome, tries),
@@ -124,7 +129,10 @@ fn fate_next(kind: ActionKind, entry: Option<Outcome>, tries: Tries) -> Fate
             if tries.attempts < tries.max {
                 Fate::Retried
             } else {
-                Fate::Reported(Cause::GaveUp { sends: tries.sends })
+                Fate::Reported(Cause::GaveUp {
+                    sends: tries.sends,
+                    last,
+                })
             }
         }
     }
@@ -151,8 +159,11 @@ pub(crate) fn fate_in(one: &Kept, whole: Way, entry: Option<Outcome>, max: u32) 
         max,
     };
     match whole {
-        Way::Reported(status) => Fate::Reported(Cause::Request { status }),
+        Way::Reported(status) => Fate::Reported(Cause::Request {
+            status,
+            reason: None,
+        }),
         Way::Halved(cap) => Fate::Halved(cap),
-        Way::ByEntry => fate_next(one.kind, entry, tries),
+        Way::ByEntry(last) => fate_next(one.kind, entry, tries, last),
     }
 }

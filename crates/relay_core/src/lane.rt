@@ -15,7 +15,7 @@ ghost use Rattle.relay_core.specs.State.{fresh, after_op, after_take, take_fault
 ghost use Rattle.relay_core.specs.State.{all_closed};
 ghost use Rattle.relay_core.specs.State.{after_tick, after_flush, is_flying, oldest, writes_of};
 ghost use Rattle.relay_core.specs.State.{after_answer_to, without_successes};
-ghost use Rattle.relay_core.specs.State.{AreCounts, next_batch, after_request, looks_after};
+ghost use Rattle.relay_core.specs.State.{explained_at, AreCounts, next_batch, after_request, looks_after};
 ghost use Rattle.relay_core.specs.State.{looked_at_least, due_in, is_finished, IsLane};
 
 use crate::config::{RelayConfig, first_in};
@@ -23,15 +23,15 @@ use crate::fates::Way;
 use crate::gather::{Due, due_batch, is_roomy, less, no_room};
 use crate::launch::launch;
 use crate::report::Report;
-use crate::settle::settle_walk;
+use crate::settle::{explain, settle_walk};
 use crate::settled::{NotFlying, Settled, TakeFault, Totals};
 use crate::success::Success;
 use crate::taking::{NoRoom, kept_of, make_room, op_of, refused};
-use relay_action::{Body, Mail, Op, Write};
+use relay_action::{Body, Mail, Op, Text, Write};
 use relay_batch::{BatchItem, Room};
 use relay_flight::Flight;
 use relay_held::{Held, NotHeld};
-use relay_results::{Cause, Outcome, matches};
+use relay_results::{Cause, LastTry, Loss, Outcome, matches};
 use std::alloc::{AllocError, Global};
 use std::marker::Model;
 
@@ -83,11 +83,12 @@ fn are_closed(closed: &[bool]) -> bool
 fn way_of(status: u16, items: usize) -> Way
     requires { items ≤ 4294967295 }
     ensures { result ≡ (if is_halved items status then Way.Halved (items / 2)
-        else if is_retried_whole status then Way.ByEntry else Way.Reported status) }
+        else if is_retried_whole status then Way.ByEntry (LastTry.Whole status)
+        else Way.Reported status) }
 {
     match status {
         413 if items >= 2 => Way::Halved((items / 2) as u32),
-        429 | 502 | 503 | 504 => Way::ByEntry,
+        429 | 502 | 503 | 504 => Way::ByEntry(LastTry::Whole(status)),
         _ => Way::Reported(status),
     }
 }
@@ -497,19 +498,32 @@ impl Lane {
         Some(found)
     }
 
-    /// The reply to a request was lost or could not be read, or the request could not be sent: each
-    /// of its operations waits to be sent again, or is given up if its attempts are used up.
+    // Gives the report at this place its reason, if it is on the status of a whole request.
+    fn explain(&mut self, place: usize, given: Option<Text>)
+        ensures state { self.new.state ≡ explained_at place given self.old.state }
+        ensures looks { self.new.looks ≡ self.old.looks }
+    {
+        explain(&mut self.reports, place, given);
+    }
+
+    /// The reply to a request was lost or could not be read, or the request could not be sent, for
+    /// this reason: each of its operations waits to be sent again, or is given up if its attempts
+    /// are used up.
     /// [`NotFlying`]: no request with this number is in flight, and the lane is unchanged. It does
     /// not allocate.
-    pub fn lost(&mut self, number: u64) -> Result<Settled, NotFlying>
+    pub fn lost(&mut self, number: u64, why: Loss) -> Result<Settled, NotFlying>
         ensures flies { is_ok result ≡ is_flying number self.old.state }
-        ensures ok { OnOk result (self.new.state ≡ after_answer_to self.old.state number Lost) }
-        ensures counts { IfOk result (λ c. AreCounts self.old.state number Lost c) }
+        ensures ok { OnOk result (self.new.state ≡ after_answer_to self.old.state number (Lost why)) }
+        ensures counts { IfOk result (λ c. AreCounts self.old.state number (Lost why) c) }
         ensures matched { IfOk result (λ c. c.matched ≡ true) }
         ensures unchanged { OnErr result (self.new ≡ self.old) }
         ensures looks { self.new.looks ≡ self.old.looks }
     {
-        match self.settle(number, Way::ByEntry, Vec::new(self.alloc)) {
+        match self.settle(
+            number,
+            Way::ByEntry(LastTry::Lost(why)),
+            Vec::new(self.alloc),
+        ) {
             Some(found) => Ok(found),
             None => Err(NotFlying),
         }
@@ -519,14 +533,20 @@ impl Lane {
     /// waits to be sent again immediately, in requests of at most half as many, and the attempt
     /// does not count. After 429, 502, 503 and 504 the request counts as lost, as in
     /// [`Lane::lost`]. After any other status, and after 413 for a single operation, each is
-    /// reported with the status. [`NotFlying`]: no request with this number is in flight, and the
-    /// lane is unchanged. It does not allocate.
-    pub fn whole(&mut self, number: u64, status: u16) -> Result<Settled, NotFlying>
+    /// reported with the status, and the first of the request with the reason, if one is given.
+    /// [`NotFlying`]: no request with this number is in flight, and the lane is unchanged. It does
+    /// not allocate.
+    pub fn whole(
+        &mut self,
+        number: u64,
+        status: u16,
+        reason: Option<Text>,
+    ) -> Result<Settled, NotFlying>
         requires { status ≢ 200 }
         ensures flies { is_ok result ≡ is_flying number self.old.state }
         ensures ok { OnOk result
-            (self.new.state ≡ after_answer_to self.old.state number (Whole status)) }
-        ensures counts { IfOk result (λ c. AreCounts self.old.state number (Whole status) c) }
+            (self.new.state ≡ after_answer_to self.old.state number (Whole status reason)) }
+        ensures counts { IfOk result (λ c. AreCounts self.old.state number (Whole status reason) c) }
         ensures matched { IfOk result (λ c. c.matched ≡ true) }
         ensures unchanged { OnErr result (self.new ≡ self.old) }
         ensures looks { self.new.looks ≡ self.old.looks }
@@ -537,10 +557,14 @@ impl Lane {
             return Err(NotFlying);
         };
         let whole = way_of(status, writes.len());
-        match self.settle(number, whole, Vec::new(self.alloc)) {
-            Some(found) => Ok(found),
-            None => Err(NotFlying),
+        let reported = self.reports.len();
+        let Some(found) = self.settle(number, whole, Vec::new(self.alloc)) else {
+            return Err(NotFlying);
+        };
+        if let Way::Reported(_) = whole {
+            self.explain(reported, reason);
         }
+        Ok(found)
     }
 
     /// A request got status 200 and these outcomes. If they match it, each operation is settled by
@@ -567,7 +591,8 @@ impl Lane {
         } else {
             Vec::new(self.alloc)
         };
-        match self.settle(number, Way::ByEntry, given) {
+        let unread = LastTry::Lost(Loss::Unreadable);
+        match self.settle(number, Way::ByEntry(unread), given) {
             Some(found) => Ok(Settled { matched, ..found }),
             None => Err(NotFlying),
         }

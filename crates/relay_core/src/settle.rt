@@ -8,7 +8,7 @@ ghost use Rattle.relay_results.specs.Documents.{document_of};
 ghost use Rattle.relay_held.specs.declared.kept.Kept.{Kept};
 ghost use Rattle.relay_core.specs.Walk.{waits_here, with_first, without_first, first_of, back};
 ghost use Rattle.relay_core.specs.Walk.{after_one, fate_one, reports_one, said, report_of, tally};
-ghost use Rattle.relay_core.specs.Walk.{kept_walk, reports_walk, tally_walk};
+ghost use Rattle.relay_core.specs.Walk.{explained, kept_walk, reports_walk, tally_walk};
 ghost use Rattle.relay_core.specs.Walk.{status_in, success_one, successes_walk};
 ghost use Rattle.relay_core.specs.Memory.{Carries};
 ghost use Rattle.relay_core.specs.State.{is_reported_fate, is_retried_fate};
@@ -17,7 +17,7 @@ use crate::fates::{Fate, Way, fate_in};
 use crate::report::Report;
 use crate::settled::Settled;
 use crate::success::Success;
-use relay_action::Write;
+use relay_action::{Text, Write};
 use relay_held::Held;
 use relay_results::{Cause, Outcome};
 use std::vec::IntoIter;
@@ -246,6 +246,25 @@ fn settle_one(
         meet(
             held, fate, write, clock, attempts, status, reports, successes, counts,
         );
+    }
+}
+
+/// Gives the report at this place its reason, if it is on the status of a whole request.
+pub(crate) fn explain(reports: &mut Vec<Report>, place: usize, given: Option<Text>)
+    ensures reports { map report_of reports.new.items
+        ≡ explained place given (map report_of reports.old.items) }
+    ensures len { vec_len reports.new ≡ vec_len reports.old }
+    ensures capacity { vec_capacity reports.new ≡ vec_capacity reports.old }
+{
+    if place >= reports.len() {
+        return;
+    }
+    if let Cause::Request { status, .. } = &reports[place].cause {
+        let status = *status;
+        reports[place].cause = Cause::Request {
+            status,
+            reason: given,
+        };
     }
 }
 

@@ -2,7 +2,7 @@
 use relay_action::{Action, ActionKind, Body, DocKey, Mail, Op, Text};
 use relay_batch::Limits;
 use relay_core::{Cause, Lane, NotFlying, RelayConfig, Settled, TakeFault, Totals};
-use relay_results::{ErrorDetail, Outcome};
+use relay_results::{ErrorDetail, Loss, Outcome};
 use std::alloc::{AllocError, Global};
 use std::test::Fail;
 
@@ -239,8 +239,8 @@ fn reply(
 
 // Whether no request with this number is in flight.
 fn is_not_flying(alloc: Global, lane: &mut Lane, number: u64) -> bool {
-    lane.lost(number).is_err()
-        && lane.whole(number, 503).is_err()
+    lane.lost(number, Loss::Closed).is_err()
+        && lane.whole(number, 503, None).is_err()
         && lane.reply(number, Vec::new(alloc)).is_err()
         && lane.writes(number).is_none()
         && lane.items(number).is_none()
@@ -256,11 +256,11 @@ fn answers(alloc: Global, desk: &mut Desk, step: &Step<'_>) -> Result<bool, Fail
             false,
         )),
         Step::Whole(status, counts) if *status != 200 => Ok(are_counts(
-            desk.lane.whole(last, *status),
+            desk.lane.whole(last, *status, None),
             counts,
             true,
         )),
-        Step::Lost(counts) => Ok(are_counts(desk.lane.lost(last), counts, true)),
+        Step::Lost(counts) => Ok(are_counts(desk.lane.lost(last, Loss::Closed), counts, true)),
         Step::NotFlying => Ok(is_not_flying(alloc, &mut desk.lane, last)),
         _ => looks(desk, step),
     }
@@ -316,9 +316,9 @@ fn reported(lane: &Lane, place: usize) -> (u64, u8, u32) {
     match lane.reports().get(place) {
         Some(report) => match &report.cause {
             Cause::Refused { status, .. } => (report.name.number, 1, *status as u32),
-            Cause::Request { status } => (report.name.number, 2, *status as u32),
+            Cause::Request { status, .. } => (report.name.number, 2, *status as u32),
             Cause::Conflict { stored, .. } => (report.name.number, 3, small(*stored)),
-            Cause::GaveUp { sends } => (report.name.number, 4, *sends),
+            Cause::GaveUp { sends, .. } => (report.name.number, 4, *sends),
             Cause::Spent => (report.name.number, 5, 0),
         },
         None => (0, 0, 0),

@@ -1,6 +1,7 @@
 //! What a lane notes of operations that ended as applied.
 use crate::desk::{CONFIG, Entry, lane_of, outcomes_of, put};
 use relay_core::{Lane, Success};
+use relay_results::Loss;
 use std::alloc::Global;
 use std::test::Fail;
 
@@ -10,7 +11,7 @@ fn answer(alloc: Global, lane: &mut Lane, entries: &[Entry<'_>]) -> Result<bool,
         return Ok(false);
     };
     if entries.is_empty() {
-        return Ok(lane.lost(number).is_ok());
+        return Ok(lane.lost(number, Loss::Closed).is_ok());
     }
     let outcomes = outcomes_of(alloc, entries)?;
     Ok(lane.reply(number, outcomes).is_ok())

@@ -185,7 +185,7 @@ module _ (g : Config) (past : Past) (c : Core) (f : CoreFacts g past c) (number 
         dealt = k.dealt;
         sends = same-counts (write_of h) ∙ k.sends;
         attempts = let e = tries-one_less (write_of h) in let n = k.attempts in omega (arith, e, n);
-        retried = λ i place p y. inl (others_retried h m w (halved_retried q.writes w.place a s.0 s.1) i place p y);
+        retried = λ i place p y. inl (others_retried h m w (halved_retried q.writes w.place a s.0.0 s.0.1 s.1) i place p y);
         flying = λ at e. absurd (cc);
         last = λ x s doc. k.last x (sent_answered c.outside.requests number a x s) doc;
       }
@@ -296,7 +296,7 @@ module _ (g : Config) (past : Past) (c : Core) (f : CoreFacts g past c) (number 
     kind_is = s.4;
     reason_is = s.5;
   }
-  new_cause h m w (cause.Request status) s = record { number = number; place = w.place; request = with_answer a q; carried = carried_here h m w; answer = s.0; final = s.1 }
+  new_cause h m w (cause.Request status reason) s = record { number = number; place = w.place; request = with_answer a q; carried = carried_here h m w; given = s.0.0; answer = s.0.1; reason_is = s.0.2; final = s.1 }
   new_cause h m w (cause.Conflict stored reason) s =
       let some = count_some (carries (write_of h)) (with_answer a q) new (at-Mem new number (with_answer a q) new_here) (carries_at new number w.place (with_answer a q) (write_of h) (carried_here h m w)) in
       let k = (f.held h m).sends in
@@ -309,7 +309,7 @@ module _ (g : Config) (past : Past) (c : Core) (f : CoreFacts g past c) (number 
         stored_is = s.4;
         reason_is = s.5;
       }
-  new_cause h m w (cause.GaveUp n) s = record {
+  new_cause h m w (cause.GaveUp n tried) s = record {
     exactly = same-counts (write_of h) ∙ (f.held h m).sends ∙ sym s.0;
     enough = let x = (f.held h m).attempts in let y = s.1 in let e = tries-stay_small (write_of h) s.3 in omega (arith, x, y, e);
     each = others_retried h m w s.2;
@@ -329,16 +329,18 @@ module _ (g : Config) (past : Past) (c : Core) (f : CoreFacts g past c) (number 
 
   cause-stays : (max : ℕ) (w : Write) (e : Cause) → IsTrueOf max c.outside w e → IsTrueOf max later w e
   cause-stays max w (cause.Refused status kind reason) h = record { outcome = h.outcome; answered = answered-stays w h.outcome h.answered; refused = h.refused; status_is = h.status_is; kind_is = h.kind_is; reason_is = h.reason_is }
-  cause-stays max w (cause.Request status) h = record {
+  cause-stays max w (cause.Request status reason) h = record {
     number = h.number;
     place = h.place;
     request = h.request;
     carried = record { write = h.carried.write; sent = other_stays h.number h.request h.carried.sent (λ e. absurd (cc (e, h.answer))); stands = h.carried.stands; same = h.carried.same };
+    given = h.given;
     answer = h.answer;
+    reason_is = h.reason_is;
     final = h.final;
   }
   cause-stays max w (cause.Conflict stored reason) h = record { outcome = h.outcome; answered = answered-stays w h.outcome h.answered; conflict = h.conflict; stored_is = h.stored_is; reason_is = h.reason_is; other = ⊎_elim (λ n. inl (same-counts w ∙ n)) (λ o. inr o) h.other }
-  cause-stays max w (cause.GaveUp n) h = record {
+  cause-stays max w (cause.GaveUp n tried) h = record {
     exactly = same-counts w ∙ h.exactly;
     enough =
         let none = ⊎_elim {C = carries w q ≡ false}

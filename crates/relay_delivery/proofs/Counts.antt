@@ -13,7 +13,8 @@ use Rattle.relay_results.specs.Verdicts.{is_halved, is_retried_whole}
 use Rattle.relay_results.specs.Matching.{matches}
 use Rattle.relay_results.specs.Outside.{Answer, Unanswered, Items, Whole, Lost, Request, Ran, Outside, MayRun, MayAnswer, after}
 use Rattle.relay_results.specs.Outside as outside
-use Rattle.relay_results.specs.Fates.{Fate, Flies, Applied, Already, Retried, Halved, Reported, Tries, tried_again, fate, fate_of_entry}
+use Rattle.relay_results.specs.declared.cause.LastTry.TheVariants as last
+use Rattle.relay_results.specs.Fates.{Fate, Flies, Applied, Already, Retried, Halved, Reported, Tries, tried_again, no_entry, reason_at, fate, fate_of_entry}
 use Rattle.relay_results.proofs.Steps.{step_runs_item}
 use Rattle.relay_results.proofs.Lists.{none_some, true_or_false, equal, equal_test, some_same, at-Mem, at-cases, at-within, at-map, map-at, at-update-cases, Mem-left, Mem-right, Mem-cases, Mem-map, map-Mem, count-push, distinct_places, none_at, none_in}
 use Rattle.relay_delivery.specs.Causes.{carries}
@@ -276,8 +277,8 @@ module _ (g : Config) (number : ℕ) (ws : List Write) (a : Answer) (hs : List H
   quiet none = count_none (λ (h : Held). says (turn g number ws a h)) hs (λ h m. ⊎_elim {C = says (turn g number ws a h) ≡ false} (λ w. ap says w.stays ∙ is.flies) (λ w. none h m w) (away_or_here g number ws a h))
 
   module _ (os : List Outcome) (ea : a ≡ Items os) (matching : matches os ws ≡ true) where
-    here_says : (h : Held) (w : IsHere g number ws a h) (found : Option Outcome) → slice_get os w.place ≡ found → says (turn g number ws a h) ≡ says (fate_of_entry (tries h) (kind_of h.op.action) found)
-    here_says h w found e = ap says (w.fate_is ∙ ap (fate (tries h) ws w.place (kind_of h.op.action)) ea ∙ ap (λ b. if b then fate_of_entry (tries h) (kind_of h.op.action) (slice_get os w.place) else tried_again (tries h)) matching ∙ ap (fate_of_entry (tries h) (kind_of h.op.action)) e)
+    here_says : (h : Held) (w : IsHere g number ws a h) (found : Option Outcome) → slice_get os w.place ≡ found → says (turn g number ws a h) ≡ says (fate_of_entry (tries h) (kind_of h.op.action) found no_entry)
+    here_says h w found e = ap says (w.fate_is ∙ ap (fate (tries h) ws w.place (kind_of h.op.action)) ea ∙ ap (λ b. if b then fate_of_entry (tries h) (kind_of h.op.action) (slice_get os w.place) no_entry else tried_again (tries h) no_entry) matching ∙ ap (λ f. fate_of_entry (tries h) (kind_of h.op.action) f no_entry) e)
 
     abbrev later : ℕ → Held → Bool
     later k h = flies_from number k h.flies && says (turn g number ws a h)
@@ -325,7 +326,7 @@ module _ (g : Config) (number : ℕ) (ws : List Write) (a : Answer) (hs : List H
         absurd (none_some (write_of h) (sym (ev (w.place - k)) ∙ ap (slice_get ws) e ∙ its h m w)))
     tail k (v ∷ vs) [] ev ep = past k (λ h m w le.
         let e : k + (w.place - k) ≡ w.place = omega (arith, le) in
-        here_says h w None (ap (slice_get os) (sym e) ∙ ep (w.place - k)) ∙ again_none test says is (tries h))
+        here_says h w None (ap (slice_get os) (sym e) ∙ ep (w.place - k)) ∙ again_none test says is (tries h) no_entry)
     tail k (v ∷ vs) (o ∷ ps) ev ep =
         let z : k ≡ k + 0 = omega arith in
         let head = one_here k v o (ap (slice_get ws) z ∙ ev 0) (ap (slice_get os) z ∙ ep 0) in
@@ -341,18 +342,18 @@ module _ (g : Config) (number : ℕ) (ws : List Write) (a : Answer) (hs : List H
 
   items_by : (os : List Outcome) (b : Bool) → a ≡ Items os → matches os ws ≡ b → count (λ (h : Held). says (turn g number ws a h)) hs ≡ (if b then entries_that test sent ws os else 0)
   items_by os true ea m = whole os ea m
-  items_by os false ea m = quiet (λ h mh w. ap says (w.fate_is ∙ ap (fate (tries h) ws w.place (kind_of h.op.action)) ea ∙ ap (λ b. if b then fate_of_entry (tries h) (kind_of h.op.action) (slice_get os w.place) else tried_again (tries h)) m) ∙ again_none test says is (tries h))
+  items_by os false ea m = quiet (λ h mh w. ap says (w.fate_is ∙ ap (fate (tries h) ws w.place (kind_of h.op.action)) ea ∙ ap (λ b. if b then fate_of_entry (tries h) (kind_of h.op.action) (slice_get os w.place) no_entry else tried_again (tries h) no_entry) m) ∙ again_none test says is (tries h) no_entry)
 
-  whole_none : (t : Tries) (s n : ℕ) (x y : Bool) → says (if x then Halved n else if y then tried_again t else Reported (cause.Request s)) ≡ false
-  whole_none t s n true y = is.halved n
-  whole_none t s n false true = again_none test says is t
-  whole_none t s n false false = is.reported (cause.Request s)
+  whole_none : (t : Tries) (s n : ℕ) (reason : Option (List ℕ)) (x y : Bool) → says (if x then Halved n else if y then tried_again t (last.Whole s) else Reported (cause.Request s reason)) ≡ false
+  whole_none t s n reason true y = is.halved n
+  whole_none t s n reason false true = again_none test says is t (last.Whole s)
+  whole_none t s n reason false false = is.reported (cause.Request s reason)
 
   tally_of : (b : Answer) → a ≡ b → count (λ (h : Held). says (turn g number ws a h)) hs ≡ places_that test sent ws b
   tally_of Unanswered e = quiet (λ h m w. ap says (w.fate_is ∙ ap (fate (tries h) ws w.place (kind_of h.op.action)) e) ∙ is.flies)
   tally_of (Items os) e = items_by os (matches os ws) e refl
-  tally_of (Whole s) e = quiet (λ h m w. ap says (w.fate_is ∙ ap (fate (tries h) ws w.place (kind_of h.op.action)) e) ∙ whole_none (tries h) s (length ws / 2) (is_halved (length ws) s) (is_retried_whole s))
-  tally_of Lost e = quiet (λ h m w. ap says (w.fate_is ∙ ap (fate (tries h) ws w.place (kind_of h.op.action)) e) ∙ again_none test says is (tries h))
+  tally_of (Whole s given) e = quiet (λ h m w. ap says (w.fate_is ∙ ap (fate (tries h) ws w.place (kind_of h.op.action)) e) ∙ whole_none (tries h) s (length ws / 2) (reason_at w.place given) (is_halved (length ws) s) (is_retried_whole s))
+  tally_of (Lost why) e = quiet (λ h m w. ap says (w.fate_is ∙ ap (fate (tries h) ws w.place (kind_of h.op.action)) e) ∙ again_none test says is (tries h) (last.Lost why))
 
   pub tally : how_many says g number ws a hs ≡ places_that test sent ws a
   tally = tally_of a refl

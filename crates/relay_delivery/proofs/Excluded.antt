@@ -1,5 +1,5 @@
 -- What the definitions rule out.
-use Rattle.std.proofs.Common.{◌≡◌, ◌≢◌, ◌∙◌, ℕ, ◌+◌, ◌≤◌, inl, inr, arith, lit<, List, [], ◌∷◌, Option, Some, None, Bool, true, false, refl, ap, sym, subst, ⊎_elim}
+use Rattle.std.proofs.Common.{◌≡◌, ◌≢◌, ◌∙◌, ℕ, zero, suc, ◌+◌, ◌≤◌, inl, inr, arith, lit<, List, [], ◌∷◌, Option, Some, None, Bool, true, false, refl, ap, sym, subst, ⊎_elim}
 use Rattle.std.specs.Prelude.{◌⊎◌, unwrap_or, is_some, not, length, ◌||◌, ◌&&◌, nat_le, nat_lt, if◌then◌else◌}
 use Rattle.relay_action.specs.declared.write.Write.{Write}
 use Rattle.relay_action.specs.declared.operation.OpName.{OpName}
@@ -10,7 +10,7 @@ use Rattle.relay_results.specs.Outside.{Answer, Items, Whole, Lost, Request, sto
 use Rattle.relay_action.specs.Actions.{kind_of}
 use Rattle.relay_results.specs.declared.decide.ItemVerdict.TheVariants as verdict
 use Rattle.relay_results.specs.Verdicts.{may_be_own, is_2xx, is_absent, is_conflict, is_retried_item, is_retried_whole, is_halved}
-use Rattle.relay_results.specs.Fates.{kind_in, reason_in, says_too_large}
+use Rattle.relay_results.specs.Fates.{kind_in, reason_in, reason_at, says_too_large}
 use Rattle.relay_results.proofs.Excluded.{by_lines}
 use Rattle.relay_results.proofs.Lists.{apart_tests, equal, none_some, some_same, count_some, at-Mem}
 use Rattle.relay_results.proofs.Same.{same_write-self, same_op-true, same_op-self, same_op-joined}
@@ -18,7 +18,7 @@ use Rattle.relay_delivery.specs.Causes.{carries, is_try, CarriedAt, IsTrueOf, Is
 use Rattle.relay_action.specs.declared.operation.Op.{Op}
 use Rattle.relay_delivery.specs.Schedules.{entry, terms}
 use Rattle.relay_results.proofs.Fates.{halved_retried}
-use Rattle.relay_delivery.specs.Laws.{request, NoneOfOtherDocument, NoneUnaccepted, NotGivenUpWhenSettled, NotRefusedWithoutStatus, NotRefusedWithoutError, NotRefusedWithoutReason, NotRefusedWhenBusy, NotReportedUnsent, NotRejectedWithoutAnswer, NotRejectedWhenRetried, NotGivenUpForHalves, NotRejectedWhenHalved, NoConflictAfterTwo, NoConflictWithoutRun, NoConflictWithUnstated, NoneReportedTwice, NoneReportedUntaken, AssignsTwo, NotAssignedTwice}
+use Rattle.relay_delivery.specs.Laws.{request, NoneOfOtherDocument, NoneUnaccepted, NotGivenUpWhenSettled, NotRefusedWithoutStatus, NotRefusedWithoutError, NotRefusedWithoutReason, NotRefusedWhenBusy, NotReportedUnsent, NotRejectedWithoutAnswer, NotRejectedWithoutReason, NotRejectedWhenRetried, NotGivenUpForHalves, NotRejectedWhenHalved, NoConflictAfterTwo, NoConflictWithoutRun, NoConflictWithUnstated, NoneReportedTwice, NoneReportedUntaken, AssignsTwo, NotAssignedTwice}
 use Rattle.relay_results.specs.Words.{count, one_if}
 use Rattle.relay_delivery.proofs.Dealt.{carries_at}
 use Rattle.relay_delivery.proofs.Played.{apart, matches-one, entry-self, carries_self}
@@ -39,10 +39,10 @@ of_version t s o v c other h =
     subst (λ u. IsTrueOf t.max s (write_for o u) c) (sym (some_same v d.version d.is_dealt)) d.of_write
 
 pub settled : NotGivenUpWhenSettled
-settled o v sends t runs h =
+settled o v sends t why tried runs h =
     let w : Write = write_for o v in
     let third : Request = request (w ∷ []) (Items (entry w 200 ∷ [])) in
-    let g = of_version t _ o v (cause.GaveUp sends) (λ e. cc) h in
+    let g = of_version t _ o v (cause.GaveUp sends tried) (λ e. cc) h in
     apart_tests (g.each 2 0 third (record { write = w; sent = refl; stands = refl; same = same_write-self w }) (matches-one (entry w 200) w (entry-self w 200)))
 
 pub without_status : NotRefusedWithoutStatus
@@ -101,9 +101,9 @@ or_right false c t = t
 
 unsent_of : (max : ℕ) (s : Outside) (w : Write) (c : Cause) → 1 ≤ max → count (carries w) s.requests ≡ 0 → IsTrueOf max s w c → ⊥
 unsent_of max s w (cause.Refused status kind reason) some none h = let a = h.answered in let n = some_carried s.requests w a.number a.place a.request a.carried in omega (arith, n, none)
-unsent_of max s w (cause.Request status) some none h = let a = h in let n = some_carried s.requests w a.number a.place a.request a.carried in omega (arith, n, none)
+unsent_of max s w (cause.Request status reason) some none h = let a = h in let n = some_carried s.requests w a.number a.place a.request a.carried in omega (arith, n, none)
 unsent_of max s w (cause.Conflict stored reason) some none h = let a = h.answered in let n = some_carried s.requests w a.number a.place a.request a.carried in omega (arith, n, none)
-unsent_of max s w (cause.GaveUp sends) some none h = let e = h.enough in let l = fewer_tries w s.requests in omega (arith, e, l, none, some)
+unsent_of max s w (cause.GaveUp sends tried) some none h = let e = h.enough in let l = fewer_tries w s.requests in omega (arith, e, l, none, some)
 unsent_of max s w cause.Spent some none h = h
 
 pub not_unsent : NotReportedUnsent
@@ -113,13 +113,23 @@ not_unsent o v t s c some none h = ⊎_elim
     h
 
 pub not_unanswered : NotRejectedWithoutAnswer
-not_unanswered o dealt t s status none h =
-    let a = (not_spent t s o dealt (cause.Request status) (λ e. cc) h).of_write in
-    none a.number a.request a.carried.sent a.answer
+not_unanswered o dealt t s status reason none h =
+    let a = (not_spent t s o dealt (cause.Request status reason) (λ e. cc) h).of_write in
+    none a.number a.request a.given a.carried.sent a.answer
+
+-- a reason that is reported is the one that was given
+given_at : (place : ℕ) (reason : List ℕ) (given : Option (List ℕ)) → Some reason ≡ reason_at place given → given ≡ Some reason
+given_at zero reason given e = sym e
+given_at (suc place) reason given e = absurd (cc)
+
+pub not_without_reason : NotRejectedWithoutReason
+not_without_reason o dealt t s status reason none h =
+    let a = (not_spent t s o dealt (cause.Request status (Some reason)) (λ e. cc) h).of_write in
+    none a.number a.request a.carried.sent (a.answer ∙ ap (Whole status) (given_at a.place reason a.given a.reason_is))
 
 pub not_retried : NotRejectedWhenRetried
-not_retried o dealt t s status again h =
-    let a = (not_spent t s o dealt (cause.Request status) (λ e. cc) h).of_write in
+not_retried o dealt t s status reason again h =
+    let a = (not_spent t s o dealt (cause.Request status reason) (λ e. cc) h).of_write in
     apart_tests (sym a.final ∙ or_right (is_halved (length a.request.writes) status) (is_retried_whole status) again)
 
 -- two of the three do not count
@@ -134,18 +144,18 @@ counted_once false false true = omega arith
 counted_once false false false = omega arith
 
 pub not_for_halves : NotGivenUpForHalves
-not_for_halves o v deals taken sends x y runs h =
+not_for_halves o v deals taken sends x y said why tried runs h =
     let w : Write = write_for o v in
-    let g = of_version (terms 2 deals taken) _ o v (cause.GaveUp sends) (λ e. cc) h in
+    let g = of_version (terms 2 deals taken) _ o v (cause.GaveUp sends tried) (λ e. cc) h in
     let n = g.enough in
-    let l = counted_once (carries w (request (w ∷ x ∷ y ∷ []) (Whole 413))) (carries w (request (w ∷ x ∷ []) (Whole 413))) (carries w (request (w ∷ []) Lost)) in
+    let l = counted_once (carries w (request (w ∷ x ∷ y ∷ []) (Whole 413 said))) (carries w (request (w ∷ x ∷ []) (Whole 413 said))) (carries w (request (w ∷ []) (Lost why))) in
     omega (arith, n, l)
 
 pub not_when_halved : NotRejectedWhenHalved
-not_when_halved o dealt t s two h =
-    let a = (not_spent t s o dealt (cause.Request 413) (λ e. cc) h).of_write in
+not_when_halved o dealt t s reason two h =
+    let a = (not_spent t s o dealt (cause.Request 413 reason) (λ e. cc) h).of_write in
     let some = two a.number a.request a.carried.sent in
-    apart_tests (sym a.final ∙ halved_retried a.request.writes 0 (Whole 413) refl some)
+    apart_tests (sym a.final ∙ halved_retried a.request.writes 0 (Whole 413 a.given) a.given refl some)
 
 pub no_conflict : NoConflictWithoutRun
 no_conflict o dealt t s stored reason none h =

@@ -91,8 +91,8 @@ module _ (g : Config) (lane_of : Document → ℕ) (past : ℕ → Past) (s : To
   honest_here : (i : ℕ) (from : Origin) (ws : List Write) (a : Answer) → slice_get s.origins i ≡ Some from → IsHonest (shown from.lane).runs from.number ws a → IsHonest s.runs i ws a
   honest_here i from ws outside.Unanswered origin h = h
   honest_here i from ws (outside.Items os) origin h = λ m. each_here i 0 from os origin (h m)
-  honest_here i from ws (outside.Whole status) origin h = h
-  honest_here i from ws outside.Lost origin h = h
+  honest_here i from ws (outside.Whole status reason) origin h = h
+  honest_here i from ws (outside.Lost why) origin h = h
 
   answer_continues : (i : ℕ) (a : Answer) (from : Origin) → MayAct g (AnswersAt i a from) s → Continues (outside_of lane_of s) (outside_of lane_of (act g lane_of (AnswersAt i a from) s))
   answer_continues i a from may =

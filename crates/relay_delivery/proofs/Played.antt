@@ -17,6 +17,7 @@ use Rattle.relay_results.specs.Matching.{matches, is_entry_for}
 use Rattle.relay_results.specs.Outside.{is_above, Answer, Unanswered, Items, Whole, Lost, Request, Ran, Outside, IsRefusal, IsConflict, WasRun}
 use Rattle.relay_delivery.specs.Attribution.{IsAttribution, is_from}
 use Rattle.relay_delivery.specs.Causes.{carries, CarriedAt, IsAnswered, IsTrueOf, IsTrueDealt}
+use Rattle.relay_results.specs.declared.cause.Loss.TheVariants.{Closed}
 use Rattle.relay_results.specs.Fates.{IsRetried}
 use Rattle.relay_delivery.specs.Schedules.{op, accepted_of, ran, failed_run, entry, failed_entry, conflict, busy, refusal, Plays, LostThenAlready, LateRunChangesNothing, RunTwice, answered_whole, RefusedOrRejected, BusyThenNext, GivenUpAndApplied, ThreeThenOne, HalvedThenAlone}
 use Rattle.relay_results.proofs.Lists.{apart_tests, none_some, some_same, sub_itself}
@@ -273,9 +274,11 @@ rejected key source =
       inl (dealt_one (record {
         number = 0;
         place = 0;
-        request = record { writes = w ∷ []; answer = Whole 401 };
+        request = record { writes = w ∷ []; answer = Whole 401 None };
         carried = record { write = w; sent = refl; stands = refl; same = same_write-self w };
+        given = None;
         answer = refl;
+        reason_is = refl;
         final = refl;
       })),
       whole key source 503 (λ e. apart 200 503 (sym e) (lit< tt)),
@@ -331,11 +334,11 @@ busy_next key source other =
 
 -- of two lost requests and one for another write, the first two carried it
 lost_each : (w x : Write) (a : Answer) → same_write w x ≡ false → (number place : ℕ) (q : Request)
-    → CarriedAt (record { writes = w ∷ []; answer = Lost } ∷ record { writes = w ∷ []; answer = Lost } ∷ record { writes = x ∷ []; answer = a } ∷ []) w number place q → IsRetried q.writes place q.answer
+    → CarriedAt (record { writes = w ∷ []; answer = Lost Closed } ∷ record { writes = w ∷ []; answer = Lost Closed } ∷ record { writes = x ∷ []; answer = a } ∷ []) w number place q → IsRetried q.writes place q.answer
 lost_each w x a other zero place q h =
-    let e : record { writes = w ∷ []; answer = Lost } ≡ q = some_same _ q h.sent in subst (λ (r : Request). IsRetried r.writes place r.answer) e tt
+    let e : record { writes = w ∷ []; answer = Lost Closed } ≡ q = some_same _ q h.sent in subst (λ (r : Request). IsRetried r.writes place r.answer) e tt
 lost_each w x a other (suc zero) place q h =
-    let e : record { writes = w ∷ []; answer = Lost } ≡ q = some_same _ q h.sent in subst (λ (r : Request). IsRetried r.writes place r.answer) e tt
+    let e : record { writes = w ∷ []; answer = Lost Closed } ≡ q = some_same _ q h.sent in subst (λ (r : Request). IsRetried r.writes place r.answer) e tt
 lost_each w x a other (suc (suc zero)) place q h =
     let e : record { writes = x ∷ []; answer = a } ≡ q = some_same _ q h.sent in
     absurd (not_carried w x h.write place other (ap (λ (r : Request). slice_get r.writes place) e ∙ h.stands) h.same)
@@ -381,8 +384,8 @@ given_up key source =
       refl,
       refl,
       inl (dealt_one (record {
-        exactly = ap (λ b. one_if b + (one_if b + 0)) (carries_self w Lost);
-        enough = (let n = ap (λ b. one_if (b && true) + (one_if (b && true) + 0)) (carries_self w Lost) in omega (arith, n));
+        exactly = ap (λ b. one_if b + (one_if b + 0)) (carries_self w (Lost Closed));
+        enough = (let n = ap (λ b. one_if (b && true) + (one_if (b && true) + 0)) (carries_self w (Lost Closed)) in omega (arith, n));
         each = lost_each w x _ refl;
       })),
       rw (bytes_eq-self key.id) refl,
@@ -460,14 +463,14 @@ three k l m source other kl lm km =
 
 -- a request of both is halved, one for another write does not count, and the last is lost
 halved_each : (w x : Write) → same_write x w ≡ false → (number place : ℕ) (q : Request)
-    → CarriedAt (record { writes = w ∷ x ∷ []; answer = Whole 413 } ∷ record { writes = w ∷ []; answer = Whole 413 } ∷ record { writes = x ∷ []; answer = Lost } ∷ []) x number place q → IsRetried q.writes place q.answer
+    → CarriedAt (record { writes = w ∷ x ∷ []; answer = Whole 413 None } ∷ record { writes = w ∷ []; answer = Whole 413 None } ∷ record { writes = x ∷ []; answer = Lost Closed } ∷ []) x number place q → IsRetried q.writes place q.answer
 halved_each w x other zero place q h =
-    let e : record { writes = w ∷ x ∷ []; answer = Whole 413 } ≡ q = some_same _ q h.sent in subst (λ (r : Request). IsRetried r.writes place r.answer) e refl
+    let e : record { writes = w ∷ x ∷ []; answer = Whole 413 None } ≡ q = some_same _ q h.sent in subst (λ (r : Request). IsRetried r.writes place r.answer) e refl
 halved_each w x other (suc zero) place q h =
-    let e : record { writes = w ∷ []; answer = Whole 413 } ≡ q = some_same _ q h.sent in
+    let e : record { writes = w ∷ []; answer = Whole 413 None } ≡ q = some_same _ q h.sent in
     absurd (not_carried x w h.write place other (ap (λ (r : Request). slice_get r.writes place) e ∙ h.stands) h.same)
 halved_each w x other (suc (suc zero)) place q h =
-    let e : record { writes = x ∷ []; answer = Lost } ≡ q = some_same _ q h.sent in subst (λ (r : Request). IsRetried r.writes place r.answer) e tt
+    let e : record { writes = x ∷ []; answer = Lost Closed } ≡ q = some_same _ q h.sent in subst (λ (r : Request). IsRetried r.writes place r.answer) e tt
 halved_each w x other (suc (suc (suc n))) place q h = let t = h.sent in cc
 
 too_large : ◌≡◌ {A = ℕ} 413 200 → ⊥
@@ -502,17 +505,19 @@ halved_alone k l =
       inl (dealt_one (record {
         number = 1;
         place = 0;
-        request = record { writes = w ∷ []; answer = Whole 413 };
+        request = record { writes = w ∷ []; answer = Whole 413 None };
         carried = record { write = w; sent = refl; stands = refl; same = same_write-self w };
+        given = None;
         answer = refl;
+        reason_is = refl;
         final = refl;
       })),
       inl (record {
         version = 2;
         is_dealt = refl;
         of_write = record {
-          exactly = ap (λ b. one_if b + (0 + (one_if b + 0))) (carries_self x Lost);
-          enough = (let n = ap (λ b. one_if (b && false) + (0 + (one_if (b && true) + 0))) (carries_self x Lost) in omega (arith, n));
+          exactly = ap (λ b. one_if b + (0 + (one_if b + 0))) (carries_self x (Lost Closed));
+          enough = (let n = ap (λ b. one_if (b && false) + (0 + (one_if (b && true) + 0))) (carries_self x (Lost Closed)) in omega (arith, n));
           each = halved_each w x refl;
         };
       }),

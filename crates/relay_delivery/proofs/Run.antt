@@ -42,9 +42,9 @@ answered-more s runs stored applied w o more a = record {
 cause-more : (max : ℕ) (s : Outside) (runs : List Ran) (stored : Document → Option ℕ) (applied : Document → List Write) (w : Write) (c : Cause) → ((r : Ran) → Mem r s.runs → Mem r runs)
     → IsTrueOf max s w c → IsTrueOf max (record { requests = s.requests; runs = runs; stored = stored; before = s.before; applied = applied }) w c
 cause-more max s runs stored applied w (cause.Refused status kind reason) more h = record { outcome = h.outcome; answered = answered-more s runs stored applied w h.outcome more h.answered; refused = h.refused; status_is = h.status_is; kind_is = h.kind_is; reason_is = h.reason_is }
-cause-more max s runs stored applied w (cause.Request status) more h = record { number = h.number; place = h.place; request = h.request; carried = h.carried; answer = h.answer; final = h.final }
+cause-more max s runs stored applied w (cause.Request status reason) more h = record { number = h.number; place = h.place; request = h.request; carried = h.carried; given = h.given; answer = h.answer; reason_is = h.reason_is; final = h.final }
 cause-more max s runs stored applied w (cause.Conflict version reason) more h = record { outcome = h.outcome; answered = answered-more s runs stored applied w h.outcome more h.answered; conflict = h.conflict; stored_is = h.stored_is; reason_is = h.reason_is; other = h.other }
-cause-more max s runs stored applied w (cause.GaveUp sends) more h = h
+cause-more max s runs stored applied w (cause.GaveUp sends tried) more h = h
 cause-more max s runs stored applied w cause.Spent more h = h
 
 -- ---- versions

@@ -234,16 +234,18 @@ module _ (g : Config) (past : Past) (c : Core) (f : CoreFacts g past c) (chosen 
 
   cause-sent : (max : ℕ) (w : Write) (e : Cause) → carries w new ≡ false → IsTrueOf max c.outside w e → IsTrueOf max later w e
   cause-sent max w (cause.Refused status kind reason) nc h = record { outcome = h.outcome; answered = answered-sent w h.outcome h.answered; refused = h.refused; status_is = h.status_is; kind_is = h.kind_is; reason_is = h.reason_is }
-  cause-sent max w (cause.Request status) nc h = record {
+  cause-sent max w (cause.Request status reason) nc h = record {
     number = h.number;
     place = h.place;
     request = h.request;
     carried = record { write = h.carried.write; sent = at-left requests (new ∷ []) h.number h.request h.carried.sent; stands = h.carried.stands; same = h.carried.same };
+    given = h.given;
     answer = h.answer;
+    reason_is = h.reason_is;
     final = h.final;
   }
   cause-sent max w (cause.Conflict stored reason) nc h = record { outcome = h.outcome; answered = answered-sent w h.outcome h.answered; conflict = h.conflict; stored_is = h.stored_is; reason_is = h.reason_is; other = ⊎_elim (λ k. inl (let e = count-push (carries w) requests new in let o = ap one_if nc in omega (arith, e, o, k))) (λ o. inr o) h.other }
-  cause-sent max w (cause.GaveUp sends) nc h = record {
+  cause-sent max w (cause.GaveUp sends tried) nc h = record {
     exactly = let e = count-push (carries w) requests new in let o = ap one_if nc in let k = h.exactly in omega arith;
     enough = let e = count-push (is_try w) requests new in let k = h.enough in omega arith;
     each = λ number place q y. ⊎_elim

@@ -437,11 +437,11 @@ module _ (g : Config) (lane_of : Document → ℕ) (past : ℕ → Past) (s : To
 
   cause_all : (max : ℕ) (w : Write) → lane_of (document_of w.key) ≡ l → (e : Cause) → IsTrueOf max own w e → IsTrueOf max (outside_of lane_of s) w e
   cause_all max w el (cause.Refused status kind reason) h = record { outcome = h.outcome; answered = answered_all w h.outcome h.answered; refused = h.refused; status_is = h.status_is; kind_is = h.kind_is; reason_is = h.reason_is }
-  cause_all max w el (cause.Request status) h =
+  cause_all max w el (cause.Request status reason) h =
       let i = global h.number h.request h.carried.sent in
-      record { number = i.number; place = h.place; request = h.request; carried = record { write = h.carried.write; sent = i.sent; stands = h.carried.stands; same = h.carried.same }; answer = h.answer; final = h.final }
+      record { number = i.number; place = h.place; request = h.request; carried = record { write = h.carried.write; sent = i.sent; stands = h.carried.stands; same = h.carried.same }; given = h.given; answer = h.answer; reason_is = h.reason_is; final = h.final }
   cause_all max w el (cause.Conflict stored reason) h = record { outcome = h.outcome; answered = answered_all w h.outcome h.answered; conflict = h.conflict; stored_is = h.stored_is; reason_is = h.reason_is; other = ⊎_elim (λ n. inl (count_all w el ∙ n)) (λ o. inr o) h.other }
-  cause_all max w el (cause.GaveUp n) h = record {
+  cause_all max w el (cause.GaveUp n tried) h = record {
     exactly = count_all w el ∙ h.exactly;
     enough = let e = tries_all w el in let n = h.enough in omega (arith, e, n);
     each = λ i place q k. let x = local w el i place q k in h.each x.number place q x.carried;
@@ -496,8 +496,8 @@ module _ (g : Config) (lane_of : Document → ℕ) (past : ℕ → Past) (s : To
   honest_there : (i : ℕ) (from : Origin) (ws : List Write) (a : Answer) → slice_get s.origins i ≡ Some from → IsHonest s.runs i ws a → IsHonest (runs_at s from.lane) from.number ws a
   honest_there i from ws Unanswered origin h = h
   honest_there i from ws (outside.Items os) origin h = λ m. each_there i 0 from os origin (h m)
-  honest_there i from ws (outside.Whole status) origin h = h
-  honest_there i from ws outside.Lost origin h = h
+  honest_there i from ws (outside.Whole status reason) origin h = h
+  honest_there i from ws (outside.Lost why) origin h = h
 
   may_answer_there : (i : ℕ) (a : Answer) (from : Origin) → slice_get s.origins i ≡ Some from → MayAnswer (outside_of lane_of s) i a → MayAct g (AnswersAt i a from) s
   may_answer_there i a from origin may =

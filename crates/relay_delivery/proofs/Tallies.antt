@@ -12,6 +12,7 @@ use Rattle.relay_results.specs.Words.{update, count, one_if}
 use Rattle.relay_results.specs.Verdicts.{may_be_own, is_2xx, is_absent, is_conflict, is_retried_item}
 use Rattle.relay_results.specs.Matching.{matches}
 use Rattle.relay_results.specs.Outside.{Answer, Unanswered, Items, Whole, Lost, Request, stored_in}
+use Rattle.relay_results.specs.declared.cause.LastTry.{LastTry}
 use Rattle.relay_results.specs.Fates.{Fate, Flies, Retried, Halved, Reported, Tries, tried_again, fate_of_item, fate_of_verdict}
 use Rattle.relay_results.proofs.Excluded.{by_lines}
 use Rattle.relay_results.proofs.Lists.{equal, count-append}
@@ -59,8 +60,8 @@ entries_same test xs ys same (w ∷ ws) (o ∷ os) = λ i. one_if (test (same w 
 pub places_same : (test : PlaceTest) (xs ys : List Request) → AsMany xs ys → (ws : List Write) (a : Answer) → places_that test xs ws a ≡ places_that test ys ws a
 places_same test xs ys same ws Unanswered = refl
 places_same test xs ys same ws (Items os) = ap (λ n. if matches os ws then n else 0) (entries_same test xs ys same ws os)
-places_same test xs ys same ws (Whole status) = refl
-places_same test xs ys same ws Lost = refl
+places_same test xs ys same ws (Whole status reason) = refl
+places_same test xs ys same ws (Lost why) = refl
 
 as_many-push : (xs ys : List Request) (q r : Request) → AsMany xs ys → q.writes ≡ r.writes → AsMany (xs ++ q ∷ []) (ys ++ r ∷ [])
 as_many-push xs ys q r same e w =
@@ -163,9 +164,9 @@ of_already = record {
       ∙ ap (λ v. is_conflict o.status && (nat_le 2 t.sends && may_be_own (stored_in o.error) v)) same;
 }
 
-pub again_none : (test : PlaceTest) (says : Fate → Bool) → IsFateOf test says → (t : Tries) → says (tried_again t) ≡ false
-again_none test says is t = by (nat_lt t.attempts t.max)
+pub again_none : (test : PlaceTest) (says : Fate → Bool) → IsFateOf test says → (t : Tries) (tried : LastTry) → says (tried_again t tried) ≡ false
+again_none test says is t tried = by (nat_lt t.attempts t.max)
   where
-    by : (b : Bool) → says (if b then Retried else Reported (cause.GaveUp t.sends)) ≡ false
+    by : (b : Bool) → says (if b then Retried else Reported (cause.GaveUp t.sends tried)) ≡ false
     by true = is.retried
-    by false = is.reported (cause.GaveUp t.sends)
+    by false = is.reported (cause.GaveUp t.sends tried)

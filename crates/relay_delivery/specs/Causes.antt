@@ -11,7 +11,7 @@ use Rattle.relay_results.specs.Words.{count}
 use Rattle.relay_results.specs.Documents.{document_of, same_write, same_op, write_for}
 use Rattle.relay_results.specs.Verdicts.{may_be_own, IsRefused, is_conflict, is_sent_again}
 use Rattle.relay_results.specs.Outside.{Whole, Request, stored_in, Outside, WasRun}
-use Rattle.relay_results.specs.Fates.{kind_in, reason_in, HasEntry, IsRetried, says_too_large}
+use Rattle.relay_results.specs.Fates.{kind_in, reason_in, reason_at, HasEntry, IsRetried, says_too_large}
 
 -- ---- the version assignment
 
@@ -48,13 +48,16 @@ pub record IsAnswered (s : Outside) (w : Write) (o : Outcome) : Type 0 where
   pub says : HasEntry request.writes place request.answer o
   pub ran : WasRun s.runs number place o
 
--- a request that carried the write was answered as a whole with this status, which is not retried
-pub record IsAnsweredWhole (s : Outside) (w : Write) (status : ℕ) : Type 0 where
+-- a request that carried the write was answered as a whole with this status, which is not retried, and with this reason,
+-- if one was given and the write was the first of the request
+pub record IsAnsweredWhole (s : Outside) (w : Write) (status : ℕ) (reason : Option (List ℕ)) : Type 0 where
   pub number : ℕ
   pub place : ℕ
   pub request : Request
   pub carried : CarriedAt s.requests w number place request
-  pub answer : request.answer ≡ Whole status
+  pub given : Option (List ℕ)
+  pub answer : request.answer ≡ Whole status given
+  pub reason_is : reason ≡ reason_at place given
   pub final : is_sent_again (length request.writes) status ≡ false
 
 -- ---- true causes
@@ -81,7 +84,7 @@ pub record IsTrueConflict (s : Outside) (w : Write) (stored : Option ℕ) (reaso
   pub reason_is : reason_in outcome.error ≡ reason
 
 -- GaveUp: exactly `sends` requests carried the write; at least `max` of them were not answered as too large; and each
--- got an answer that is retried.
+-- got an answer that is retried. What is said of the last of them is no part of it.
 pub record GaveUpAfter (requests : List Request) (w : Write) (max sends : ℕ) : Type 0 where
   pub exactly : count (carries w) requests ≡ sends
   pub enough : max ≤ count (is_try w) requests
@@ -90,9 +93,9 @@ pub record GaveUpAfter (requests : List Request) (w : Write) (max sends : ℕ) :
 -- The cause is true for a write that was assigned a version, of which `max` tries were allowed.
 abbrev pub IsTrueOf : ℕ → Outside → Write → Cause → Type 0
 IsTrueOf max s w (cause.Refused status kind reason) = IsTrueRefusal s w status kind reason
-IsTrueOf max s w (cause.Request status) = IsAnsweredWhole s w status
+IsTrueOf max s w (cause.Request status reason) = IsAnsweredWhole s w status reason
 IsTrueOf max s w (cause.Conflict stored reason) = IsTrueConflict s w stored reason
-IsTrueOf max s w (cause.GaveUp sends) = GaveUpAfter s.requests w max sends
+IsTrueOf max s w (cause.GaveUp sends tried) = GaveUpAfter s.requests w max sends
 IsTrueOf max s w cause.Spent = ⊥
 
 -- what the causes of a lane's reports are judged by, besides the outside: how many tries an operation has, how many

@@ -38,8 +38,8 @@ entries_that test sent (w ∷ ws) (o ∷ os) = one_if (test (count (carries w) s
 abbrev pub places_that : PlaceTest → List Request → List Write → Answer → ℕ
 places_that test sent ws Unanswered = 0
 places_that test sent ws (Items os) = if matches os ws then entries_that test sent ws os else 0
-places_that test sent ws (Whole status) = 0
-places_that test sent ws Lost = 0
+places_that test sent ws (Whole status reason) = 0
+places_that test sent ws (Lost why) = 0
 
 -- the number over all requests, in the order in which they were sent, given those that were sent before them
 abbrev pub places_from : PlaceTest → List Request → List Request → ℕ

@@ -8,6 +8,7 @@ use Rattle.relay_action.specs.declared.operation.Op.{Op}
 use Rattle.relay_action.specs.declared.write.Write.{Write}
 use Rattle.relay_results.specs.Words.{Mem}
 use Rattle.relay_results.specs.Documents.{Document, document_of, write_for}
+use Rattle.relay_results.specs.declared.cause.Loss.TheVariants.{Closed}
 use Rattle.relay_results.specs.Outside.{Outside, IsOpening, Items, Lost, Event, AllMayHappen}
 use Rattle.relay_results.specs.Outside as outside
 use Rattle.relay_delivery.specs.Attribution.{IsAttribution}
@@ -35,7 +36,7 @@ lost_then_conflict o =
     Takes o
     ∷ Sends (waiting o 1 0 ∷ [])
     ∷ Runs (ran 0 0 201)
-    ∷ Answers 0 Lost
+    ∷ Answers 0 (Lost Closed)
     ∷ Sends (waiting o 1 1 ∷ [])
     ∷ Runs (failed_run 1 0 409 conflict)
     ∷ Answers 1 (Items (failed_entry (write_for o 1) 409 conflict ∷ []))
@@ -74,7 +75,7 @@ abbrev pub lost_and_stale : Op → List Step
 lost_and_stale o =
     Takes o
     ∷ Sends (waiting o 1 0 ∷ [])
-    ∷ Answers 0 Lost
+    ∷ Answers 0 (Lost Closed)
     ∷ Sends (waiting o 1 1 ∷ [])
     ∷ Runs (failed_run 1 0 409 conflict)
     ∷ Answers 1 (Items (failed_entry (write_for o 1) 409 conflict ∷ []))
@@ -102,7 +103,7 @@ abbrev pub second_applied : Op → Op → List Step
 second_applied o p =
     Runs (ran 1 0 201)
     ∷ Answers 1 (Items (entry (write_for p 2) 201 ∷ []))
-    ∷ Answers 0 Lost
+    ∷ Answers 0 (Lost Closed)
     ∷ Sends (waiting o 1 1 ∷ [])
     ∷ Runs (failed_run 2 0 409 conflict)
     ∷ Answers 2 (Items (failed_entry (write_for o 1) 409 conflict ∷ []))
@@ -124,7 +125,7 @@ EarlierOnesFirst = (key : DocKey) (source other : Source) → LosesFirst (op 1 k
 -- a repeat is sent with a fresh version; the first attempt is run late, and then the repeat
 abbrev pub fresh_at_retry : Write → Write → List Event
 fresh_at_retry w x =
-    outside.Sends (w ∷ []) ∷ outside.Answers 0 Lost ∷ outside.Sends (x ∷ [])
+    outside.Sends (w ∷ []) ∷ outside.Answers 0 (Lost Closed) ∷ outside.Sends (x ∷ [])
     ∷ outside.Runs (ran 0 0 201) ∷ outside.Runs (ran 1 0 200) ∷ outside.Answers 1 (Items (entry x 200 ∷ []))
     ∷ []
 

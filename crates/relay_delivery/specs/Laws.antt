@@ -4,6 +4,8 @@ use Rattle.relay_action.specs.declared.write.Write.{Write}
 use Rattle.relay_action.specs.declared.operation.Op.{Op}
 use Rattle.relay_results.specs.declared.cause.Cause.{Cause}
 use Rattle.relay_results.specs.declared.cause.Cause.TheVariants as cause
+use Rattle.relay_results.specs.declared.cause.LastTry.{LastTry}
+use Rattle.relay_results.specs.declared.cause.Loss.{Loss}
 use Rattle.relay_results.specs.Words.{Mem, count}
 use Rattle.relay_results.specs.Documents.{Document, document_of, write_for, source_of, name_of, same_op}
 use Rattle.relay_results.specs.Verdicts.{may_be_own, is_conflict, is_retried_item, is_retried_whole}
@@ -61,16 +63,16 @@ request ws answer = record { writes = ws; answer = answer }
 
 -- one reply was lost, and the operation may have three tries
 abbrev pub NotGivenUpAfterOne : Type 0
-NotGivenUpAfterOne = (o : Op) (v deals taken sends : ℕ) (runs : List Ran) →
-    let requests = request (write_for o v ∷ []) Lost ∷ [] in
-    IsTrueCause (terms 3 deals taken) (outside_with requests runs) o (Some v) (cause.GaveUp sends) → ⊥
+NotGivenUpAfterOne = (o : Op) (v deals taken sends : ℕ) (why : Loss) (tried : LastTry) (runs : List Ran) →
+    let requests = request (write_for o v ∷ []) (Lost why) ∷ [] in
+    IsTrueCause (terms 3 deals taken) (outside_with requests runs) o (Some v) (cause.GaveUp sends tried) → ⊥
 
 -- the last of three answers settled it
 abbrev pub NotGivenUpWhenSettled : Type 0
-NotGivenUpWhenSettled = (o : Op) (v sends : ℕ) (t : Terms) (runs : List Ran) →
+NotGivenUpWhenSettled = (o : Op) (v sends : ℕ) (t : Terms) (why : Loss) (tried : LastTry) (runs : List Ran) →
     let ws = write_for o v ∷ [] in
     let applied = Items (entry (write_for o v) 200 ∷ []) in
-    IsTrueCause t (outside_with (request ws Lost ∷ request ws Lost ∷ request ws applied ∷ []) runs) o (Some v) (cause.GaveUp sends) → ⊥
+    IsTrueCause t (outside_with (request ws (Lost why) ∷ request ws (Lost why) ∷ request ws applied ∷ []) runs) o (Some v) (cause.GaveUp sends tried) → ⊥
 
 -- two requests carried it, and no stored version is stated, or its own
 abbrev pub NoConflictAfterTwo : Type 0
@@ -107,31 +109,37 @@ NotReportedUnsent =
     (o : Op) (v : ℕ) (t : Terms) (s : Outside) (c : Cause) → 1 ≤ t.max → count (carries (write_for o v)) s.requests ≡ 0 →
     IsTrueCause t s o (Some v) c → c ≡ cause.Spent
 
--- no request was answered with this status; requests answered with this status are retried
+-- no request was answered with this status, or none with this reason; requests answered with this status are retried
 abbrev pub NotRejectedWithoutAnswer : Type 0
 NotRejectedWithoutAnswer =
-    (o : Op) (dealt : Option ℕ) (t : Terms) (s : Outside) (status : ℕ) →
-    ((number : ℕ) (q : Request) → slice_get s.requests number ≡ Some q → q.answer ≢ Whole status) →
-    IsTrueCause t s o dealt (cause.Request status) → ⊥
+    (o : Op) (dealt : Option ℕ) (t : Terms) (s : Outside) (status : ℕ) (reason : Option (List ℕ)) →
+    ((number : ℕ) (q : Request) (given : Option (List ℕ)) → slice_get s.requests number ≡ Some q → q.answer ≢ Whole status given) →
+    IsTrueCause t s o dealt (cause.Request status reason) → ⊥
+
+abbrev pub NotRejectedWithoutReason : Type 0
+NotRejectedWithoutReason =
+    (o : Op) (dealt : Option ℕ) (t : Terms) (s : Outside) (status : ℕ) (reason : List ℕ) →
+    ((number : ℕ) (q : Request) → slice_get s.requests number ≡ Some q → q.answer ≢ Whole status (Some reason)) →
+    IsTrueCause t s o dealt (cause.Request status (Some reason)) → ⊥
 
 abbrev pub NotRejectedWhenRetried : Type 0
 NotRejectedWhenRetried =
-    (o : Op) (dealt : Option ℕ) (t : Terms) (s : Outside) (status : ℕ) → is_retried_whole status ≡ true →
-    IsTrueCause t s o dealt (cause.Request status) → ⊥
+    (o : Op) (dealt : Option ℕ) (t : Terms) (s : Outside) (status : ℕ) (reason : Option (List ℕ)) → is_retried_whole status ≡ true →
+    IsTrueCause t s o dealt (cause.Request status reason) → ⊥
 
 -- of three requests that carried it, two were too large: only one counts as a try
 abbrev pub NotGivenUpForHalves : Type 0
-NotGivenUpForHalves = (o : Op) (v deals taken sends : ℕ) (x y : Write) (runs : List Ran) →
+NotGivenUpForHalves = (o : Op) (v deals taken sends : ℕ) (x y : Write) (said : Option (List ℕ)) (why : Loss) (tried : LastTry) (runs : List Ran) →
     let w = write_for o v in
-    let requests = request (w ∷ x ∷ y ∷ []) (Whole 413) ∷ request (w ∷ x ∷ []) (Whole 413) ∷ request (w ∷ []) Lost ∷ [] in
-    IsTrueCause (terms 2 deals taken) (outside_with requests runs) o (Some v) (cause.GaveUp sends) → ⊥
+    let requests = request (w ∷ x ∷ y ∷ []) (Whole 413 said) ∷ request (w ∷ x ∷ []) (Whole 413 said) ∷ request (w ∷ []) (Lost why) ∷ [] in
+    IsTrueCause (terms 2 deals taken) (outside_with requests runs) o (Some v) (cause.GaveUp sends tried) → ⊥
 
 -- no request carried it alone
 abbrev pub NotRejectedWhenHalved : Type 0
 NotRejectedWhenHalved =
-    (o : Op) (dealt : Option ℕ) (t : Terms) (s : Outside) →
+    (o : Op) (dealt : Option ℕ) (t : Terms) (s : Outside) (reason : Option (List ℕ)) →
     ((number : ℕ) (q : Request) → slice_get s.requests number ≡ Some q → 2 ≤ length q.writes) →
-    IsTrueCause t s o dealt (cause.Request 413) → ⊥
+    IsTrueCause t s o dealt (cause.Request 413 reason) → ⊥
 
 -- no run met a conflict; none stated this version, or none
 abbrev pub NoConflictWithoutRun : Type 0

@@ -9,6 +9,8 @@ use Rattle.relay_action.specs.declared.action.Action.TheVariants.{Index, Delete}
 use Rattle.relay_action.specs.declared.write.Write.{Write}
 use Rattle.relay_action.specs.declared.operation.Op.{Op}
 use Rattle.relay_results.specs.declared.cause.Cause.TheVariants as cause
+use Rattle.relay_results.specs.declared.cause.LastTry.TheVariants as last
+use Rattle.relay_results.specs.declared.cause.Loss.TheVariants.{Closed}
 use Rattle.relay_results.specs.declared.outcome.Outcome.{Outcome}
 use Rattle.relay_results.specs.Documents.{Document, document_of, same_document, write_for}
 use Rattle.relay_results.specs.Done.{bare_error}
@@ -88,7 +90,7 @@ becomes t ws place action answer f = fate t ws place (kind_of action) answer ≡
 -- applied by the first request, whose reply is lost; the repeat meets its own version
 abbrev pub lost_then_conflict : Write → List Event
 lost_then_conflict w =
-    Sends (w ∷ []) ∷ Runs (ran 0 0 201) ∷ Answers 0 Lost
+    Sends (w ∷ []) ∷ Runs (ran 0 0 201) ∷ Answers 0 (Lost Closed)
     ∷ Sends (w ∷ []) ∷ Runs (failed_run 1 0 409 conflict) ∷ Answers 1 (Items (failed_entry w 409 conflict ∷ []))
     ∷ []
 
@@ -96,13 +98,13 @@ abbrev pub LostThenAlready : Type 0
 LostThenAlready = (key : DocKey) (source : Source) →
     let o = op 1 key (Index source) in let w = write_for o 1 in
     Plays (o ∷ []) (lost_then_conflict w) (document_of key) (w ∷ []) (o ∷ [])
-    × becomes (tries_after 1 3) (w ∷ []) 0 (Index source) Lost of.Retried
+    × becomes (tries_after 1 3) (w ∷ []) 0 (Index source) (Lost Closed) of.Retried
     × becomes (tries_after 2 3) (w ∷ []) 0 (Index source) (Items (failed_entry w 409 conflict ∷ [])) of.Already
 
 -- the first request is lost before it is run; the second is applied, and then the first is run late
 abbrev pub lost_then_late : Write → List Event
 lost_then_late w =
-    Sends (w ∷ []) ∷ Answers 0 Lost ∷ Sends (w ∷ []) ∷ Runs (ran 1 0 201) ∷ Runs (failed_run 0 0 409 conflict)
+    Sends (w ∷ []) ∷ Answers 0 (Lost Closed) ∷ Sends (w ∷ []) ∷ Runs (ran 1 0 201) ∷ Runs (failed_run 0 0 409 conflict)
     ∷ Answers 1 (Items (entry w 201 ∷ []))
     ∷ []
 
@@ -131,7 +133,7 @@ abbrev pub item_refusal : Write → List Event
 item_refusal w = Sends (w ∷ []) ∷ Runs (failed_run 0 0 400 refusal) ∷ Answers 0 (Items (failed_entry w 400 refusal ∷ [])) ∷ []
 
 abbrev pub answered_whole : Write → ℕ → List Event
-answered_whole w status = Sends (w ∷ []) ∷ Answers 0 (Whole status) ∷ []
+answered_whole w status = Sends (w ∷ []) ∷ Answers 0 (Whole status None) ∷ []
 
 abbrev pub RefusedOrRejected : Type 0
 RefusedOrRejected = (key : DocKey) (source : Source) →
@@ -140,10 +142,10 @@ RefusedOrRejected = (key : DocKey) (source : Source) →
     × becomes (tries_after 1 3) (w ∷ []) 0 (Index source) (Items (failed_entry w 400 refusal ∷ [])) (of.Reported (cause.Refused 400 refusal None))
     × IsTrueCause (terms 3 1000 1) (end_of (item_refusal w)) o (Some 1) (cause.Refused 400 refusal None)
     × Plays (o ∷ []) (answered_whole w 401) (document_of key) [] []
-    × becomes (tries_after 1 3) (w ∷ []) 0 (Index source) (Whole 401) (of.Reported (cause.Request 401))
-    × IsTrueCause (terms 3 1000 1) (end_of (answered_whole w 401)) o (Some 1) (cause.Request 401)
+    × becomes (tries_after 1 3) (w ∷ []) 0 (Index source) (Whole 401 None) (of.Reported (cause.Request 401 None))
+    × IsTrueCause (terms 3 1000 1) (end_of (answered_whole w 401)) o (Some 1) (cause.Request 401 None)
     × Plays (o ∷ []) (answered_whole w 503) (document_of key) [] []
-    × becomes (tries_after 1 3) (w ∷ []) 0 (Index source) (Whole 503) of.Retried
+    × becomes (tries_after 1 3) (w ∷ []) 0 (Index source) (Whole 503 None) of.Retried
 
 -- no version was left for it, and it was never sent
 abbrev pub NoVersionLeft : Type 0
@@ -173,7 +175,7 @@ BusyThenNext = (key : DocKey) (source other : Source) →
 -- second operation, and its second request after it
 abbrev pub given_up_then_next : Write → Write → List Event
 given_up_then_next w x =
-    Sends (w ∷ []) ∷ Answers 0 Lost ∷ Sends (w ∷ []) ∷ Answers 1 Lost
+    Sends (w ∷ []) ∷ Answers 0 (Lost Closed) ∷ Sends (w ∷ []) ∷ Answers 1 (Lost Closed)
     ∷ Runs (ran 0 0 201)
     ∷ Sends (x ∷ []) ∷ Runs (ran 2 0 200) ∷ Runs (failed_run 1 0 409 conflict) ∷ Answers 2 (Items (entry x 200 ∷ []))
     ∷ []
@@ -183,9 +185,9 @@ GivenUpAndApplied = (key : DocKey) (source : Source) →
     let o = op 1 key (Index source) in let p = op 2 key Delete in
     let w = write_for o 1 in let x = write_for p 2 in
     Plays (o ∷ p ∷ []) (given_up_then_next w x) (document_of key) (w ∷ x ∷ []) (o ∷ p ∷ [])
-    × becomes (tries_after 1 2) (w ∷ []) 0 (Index source) Lost of.Retried
-    × becomes (tries_after 2 2) (w ∷ []) 0 (Index source) Lost (of.Reported (cause.GaveUp 2))
-    × IsTrueCause (terms 2 1000 2) (end_of (given_up_then_next w x)) o (Some 1) (cause.GaveUp 2)
+    × becomes (tries_after 1 2) (w ∷ []) 0 (Index source) (Lost Closed) of.Retried
+    × becomes (tries_after 2 2) (w ∷ []) 0 (Index source) (Lost Closed) (of.Reported (cause.GaveUp 2 (last.Lost Closed)))
+    × IsTrueCause (terms 2 1000 2) (end_of (given_up_then_next w x)) o (Some 1) (cause.GaveUp 2 (last.Lost Closed))
     × becomes (tries_after 1 2) (x ∷ []) 0 Delete (Items (entry x 200 ∷ [])) of.Applied
 
 -- ---- three documents
@@ -219,9 +221,9 @@ ThreeThenOne = (k l m : DocKey) (source other : Source) →
 -- the other, its only try, is lost
 abbrev pub halved_then_alone : Write → Write → List Event
 halved_then_alone w x =
-    Sends (w ∷ x ∷ []) ∷ Answers 0 (Whole 413)
-    ∷ Sends (w ∷ []) ∷ Answers 1 (Whole 413)
-    ∷ Sends (x ∷ []) ∷ Answers 2 Lost
+    Sends (w ∷ x ∷ []) ∷ Answers 0 (Whole 413 None)
+    ∷ Sends (w ∷ []) ∷ Answers 1 (Whole 413 None)
+    ∷ Sends (x ∷ []) ∷ Answers 2 (Lost Closed)
     ∷ []
 
 abbrev pub HalvedThenAlone : Type 0
@@ -230,9 +232,9 @@ HalvedThenAlone = (k l : DocKey) →
     let w = write_for o 1 in let x = write_for p 2 in
     let second : Tries = record { version = 1; sends = 2; attempts = 1; max = 1 } in
     Plays (o ∷ p ∷ []) (halved_then_alone w x) (document_of k) [] []
-    × becomes (tries_after 1 1) (w ∷ x ∷ []) 0 Delete (Whole 413) (of.Halved 1)
-    × becomes (tries_after 1 1) (w ∷ x ∷ []) 1 Delete (Whole 413) (of.Halved 1)
-    × becomes second (w ∷ []) 0 Delete (Whole 413) (of.Reported (cause.Request 413))
-    × becomes second (x ∷ []) 0 Delete Lost (of.Reported (cause.GaveUp 2))
-    × IsTrueCause (terms 1 1000 2) (end_of (halved_then_alone w x)) o (Some 1) (cause.Request 413)
-    × IsTrueCause (terms 1 1000 2) (end_of (halved_then_alone w x)) p (Some 2) (cause.GaveUp 2)
+    × becomes (tries_after 1 1) (w ∷ x ∷ []) 0 Delete (Whole 413 None) (of.Halved 1)
+    × becomes (tries_after 1 1) (w ∷ x ∷ []) 1 Delete (Whole 413 None) (of.Halved 1)
+    × becomes second (w ∷ []) 0 Delete (Whole 413 None) (of.Reported (cause.Request 413 None))
+    × becomes second (x ∷ []) 0 Delete (Lost Closed) (of.Reported (cause.GaveUp 2 (last.Lost Closed)))
+    × IsTrueCause (terms 1 1000 2) (end_of (halved_then_alone w x)) o (Some 1) (cause.Request 413 None)
+    × IsTrueCause (terms 1 1000 2) (end_of (halved_then_alone w x)) p (Some 2) (cause.GaveUp 2 (last.Lost Closed))

@@ -15,7 +15,8 @@ ghost use Rattle.relay_delivery.specs.Laws.{NoConflictAfterTwo, NotRefusedWithou
 ghost use Rattle.relay_delivery.specs.Laws.{NotRefusedWithoutError, NotRefusedWithoutReason};
 ghost use Rattle.relay_delivery.specs.Laws.{NotSpentWithinLimit, NoConflictWithUnstated};
 ghost use Rattle.relay_delivery.specs.Laws.{NotRefusedWhenBusy, NotReportedUnsent};
-ghost use Rattle.relay_delivery.specs.Laws.{NotRejectedWithoutAnswer, NotRejectedWhenRetried};
+ghost use Rattle.relay_delivery.specs.Laws.{NotRejectedWithoutAnswer, NotRejectedWithoutReason};
+ghost use Rattle.relay_delivery.specs.Laws.{NotRejectedWhenRetried};
 ghost use Rattle.relay_delivery.specs.Laws.{NotGivenUpForHalves, NotRejectedWhenHalved};
 ghost use Rattle.relay_delivery.specs.Laws.{NoConflictWithoutRun, NoneReportedTwice};
 ghost use Rattle.relay_delivery.specs.Laws.{NoneReportedUntaken, AssignsTwo, NotAssignedTwice};
@@ -85,6 +86,7 @@ pub fn causes_exclude()
     ensures busy { NotRefusedWhenBusy }
     ensures unsent { NotReportedUnsent }
     ensures unanswered { NotRejectedWithoutAnswer }
+    ensures without_given { NotRejectedWithoutReason }
     ensures retried { NotRejectedWhenRetried }
     ensures halves { NotGivenUpForHalves }
     ensures halved { NotRejectedWhenHalved }

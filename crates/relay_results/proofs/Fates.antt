@@ -6,13 +6,15 @@ use Rattle.std.proofs.lemmas.Bool.{le-leb}
 use Rattle.relay_action.specs.declared.action.ActionKind.{ActionKind}
 use Rattle.relay_action.specs.declared.write.Write.{Write}
 use Rattle.relay_results.specs.declared.cause.Cause.TheVariants as cause
+use Rattle.relay_results.specs.declared.cause.LastTry.{LastTry}
+use Rattle.relay_results.specs.declared.cause.LastTry.TheVariants as last
 use Rattle.relay_results.specs.declared.outcome.Outcome.{Outcome}
 use Rattle.relay_results.specs.declared.decide.ItemVerdict.{ItemVerdict}
 use Rattle.relay_results.specs.declared.decide.ItemVerdict.TheVariants as verdict
 use Rattle.relay_results.specs.Verdicts.{may_be_own, is_2xx, is_absent, is_success, is_conflict, is_retried_item, is_retried_whole, is_too_large, is_halved}
 use Rattle.relay_results.specs.Matching.{matches}
 use Rattle.relay_results.specs.Outside.{Answer, Unanswered, Items, Whole, Lost, Ran, stored_in, WasRun, EachWasRun, IsHonest}
-use Rattle.relay_results.specs.Fates.{Fate, Flies, Retried, Halved, Reported, Tries, tried_again, fate, fate_of_entry, fate_of_verdict, HasEntry, IsRetried, is_retried_entry}
+use Rattle.relay_results.specs.Fates.{Fate, Flies, Retried, Halved, Reported, Tries, tried_again, no_entry, reason_at, fate, fate_of_entry, fate_of_verdict, HasEntry, IsRetried, is_retried_entry}
 use Rattle.relay_results.specs.Laws.{IsWithOther, Says, FateSays, AnswersEndFlight, RetriedHasTries, HonestEntryWasRun}
 use Rattle.relay_results.proofs.Lists.{some_same, equal, true_or_false, and_left, and_right}
 use Rattle.relay_results.proofs.Excluded.{by_lines, refused_whatever}
@@ -40,8 +42,8 @@ by_verdict P false false false true r true p1 p2 p3 p4 p5 p6 p7 = p5 refl refl
 by_verdict P false false false true r false p1 p2 p3 p4 p5 p6 p7 = p6 refl refl
 by_verdict P false false false false r l p1 p2 p3 p4 p5 p6 p7 = p7 refl
 
-by_tried : (P : Fate → Type 0) (t : Tries) → (t.attempts < t.max → P Retried) → (t.max ≤ t.attempts → P (Reported (cause.GaveUp t.sends))) → P (tried_again t)
-by_tried P t w e = if_case P (nat_lt t.attempts t.max) _ _ (λ x. w (ltb-true _ _ x)) (λ x. e (ltb-false _ _ x))
+by_tried : (P : Fate → Type 0) (t : Tries) (tried : LastTry) → (t.attempts < t.max → P Retried) → (t.max ≤ t.attempts → P (Reported (cause.GaveUp t.sends tried))) → P (tried_again t tried)
+by_tried P t tried w e = if_case P (nat_lt t.attempts t.max) _ _ (λ x. w (ltb-true _ _ x)) (λ x. e (ltb-false _ _ x))
 
 -- ---- by the kind of the answer
 
@@ -65,8 +67,8 @@ with_other t o h =
       | inr other ↦ inr other
     ]
 
-entry_says : (t : Tries) (ws : List Write) (place : ℕ) (kind : ActionKind) (os : List Outcome) (found : Option Outcome) → slice_get os place ≡ found → matches os ws ≡ true → Says t ws place kind (Items os) (fate_of_entry t kind found)
-entry_says t ws place kind os None e m = by_tried (Says t ws place kind (Items os)) t (λ lt. (lt, (λ _. ap is_retried_entry e), refl)) (λ le. (refl, le, (λ _. ap is_retried_entry e), refl))
+entry_says : (t : Tries) (ws : List Write) (place : ℕ) (kind : ActionKind) (os : List Outcome) (found : Option Outcome) → slice_get os place ≡ found → matches os ws ≡ true → Says t ws place kind (Items os) (fate_of_entry t kind found no_entry)
+entry_says t ws place kind os None e m = by_tried (Says t ws place kind (Items os)) t no_entry (λ lt. (lt, (λ _. ap is_retried_entry e), refl)) (λ le. (refl, le, (λ _. ap is_retried_entry e), refl))
 entry_says t ws place kind os (Some o) e m =
     let entry : HasEntry ws place (Items os) o = record { entries = os; answer = refl; matching = m; entry = e } in
     let own : Bool = may_be_own (stored_in o.error) t.version in
@@ -80,9 +82,9 @@ entry_says t ws place kind os (Some o) e m =
     (λ s none. (refl, ltb-false _ _ none, (λ _. ap is_retried_entry e ∙ s), refl))
     (λ s. (o, entry, refused_whatever kind o.status (is_some o.error) own t.sends t.attempts t.max s, refl, refl, refl))
 
-items_say : (t : Tries) (ws : List Write) (place : ℕ) (kind : ActionKind) (os : List Outcome) (b : Bool) → matches os ws ≡ b → Says t ws place kind (Items os) (if b then fate_of_entry t kind (slice_get os place) else tried_again t)
+items_say : (t : Tries) (ws : List Write) (place : ℕ) (kind : ActionKind) (os : List Outcome) (b : Bool) → matches os ws ≡ b → Says t ws place kind (Items os) (if b then fate_of_entry t kind (slice_get os place) no_entry else tried_again t no_entry)
 items_say t ws place kind os true m = entry_says t ws place kind os (slice_get os place) refl m
-items_say t ws place kind os false m = by_tried (Says t ws place kind (Items os)) t (λ lt. (lt, (λ y. absurd (cc (y, m))), refl)) (λ le. (refl, le, (λ y. absurd (cc (y, m))), refl))
+items_say t ws place kind os false m = by_tried (Says t ws place kind (Items os)) t no_entry (λ lt. (lt, (λ y. absurd (cc (y, m))), refl)) (λ le. (refl, le, (λ y. absurd (cc (y, m))), refl))
 
 -- what is retried unchanged was not too large
 small_retried : (status : ℕ) → is_retried_whole status ≡ true → is_too_large status ≡ false
@@ -91,30 +93,30 @@ small_retried status y = ⊎_elim {C = is_too_large status ≡ false}
     (λ f. f)
     (true_or_false (is_too_large status))
 
-whole_says : (t : Tries) (ws : List Write) (place : ℕ) (kind : ActionKind) (s : ℕ) → Says t ws place kind (Whole s) (if is_halved (length ws) s then Halved (length ws / 2) else if is_retried_whole s then tried_again t else Reported (cause.Request s))
-whole_says t ws place kind s =
-    if_case (Says t ws place kind (Whole s)) (is_halved (length ws) s) _ _
-    (λ y. (ap Whole (equal s 413 (and_left _ _ y)), leb-true _ _ (and_right (is_too_large s) _ y), refl))
-    (λ n. if_case (Says t ws place kind (Whole s)) (is_retried_whole s) _ _
+whole_says : (t : Tries) (ws : List Write) (place : ℕ) (kind : ActionKind) (s : ℕ) (given : Option (List ℕ)) → Says t ws place kind (Whole s given) (if is_halved (length ws) s then Halved (length ws / 2) else if is_retried_whole s then tried_again t (last.Whole s) else Reported (cause.Request s (reason_at place given)))
+whole_says t ws place kind s given =
+    if_case (Says t ws place kind (Whole s given)) (is_halved (length ws) s) _ _
+    (λ y. ((given, ap (λ n. Whole n given) (equal s 413 (and_left _ _ y))), leb-true _ _ (and_right (is_too_large s) _ y), refl))
+    (λ n. if_case (Says t ws place kind (Whole s given)) (is_retried_whole s) _ _
     (λ y.
     let again = ap (λ b. b || is_retried_whole s) n ∙ y in
     let small = small_retried s y in
-    by_tried (Says t ws place kind (Whole s)) t (λ lt. (lt, again, small)) (λ le. (refl, le, again, small)))
-    (λ y. (refl, ap (λ b. b || is_retried_whole s) n ∙ y)))
+    by_tried (Says t ws place kind (Whole s given)) t (last.Whole s) (λ lt. (lt, again, small)) (λ le. (refl, le, again, small)))
+    (λ y. ((given, refl, refl), ap (λ b. b || is_retried_whole s) n ∙ y)))
 
 pub fate_says : FateSays
 fate_says t ws place kind Unanswered = refl
 fate_says t ws place kind (Items os) = items_say t ws place kind os (matches os ws) refl
-fate_says t ws place kind (Whole s) = whole_says t ws place kind s
-fate_says t ws place kind Lost = by_tried (Says t ws place kind Lost) t (λ lt. (lt, tt, refl)) (λ le. (refl, le, tt, refl))
+fate_says t ws place kind (Whole s given) = whole_says t ws place kind s given
+fate_says t ws place kind (Lost why) = by_tried (Says t ws place kind (Lost why)) t (last.Lost why) (λ lt. (lt, tt, refl)) (λ le. (refl, le, tt, refl))
 
 -- what it says if it is this fate
 pub says_as : (t : Tries) (ws : List Write) (place : ℕ) (kind : ActionKind) (a : Answer) (f : Fate) → fate t ws place kind a ≡ f → Says t ws place kind a f
 says_as t ws place kind a f e = subst (λ x. Says t ws place kind a x) e (fate_says t ws place kind a)
 
 -- a request that is halved is sent again
-pub halved_retried : (ws : List Write) (place : ℕ) (a : Answer) → a ≡ Whole 413 → 2 ≤ length ws → IsRetried ws place a
-halved_retried ws place a e some = subst (λ b. IsRetried ws place b) (sym e) (ap (λ b. b || is_retried_whole 413) (le-leb 2 (length ws) some))
+pub halved_retried : (ws : List Write) (place : ℕ) (a : Answer) (reason : Option (List ℕ)) → a ≡ Whole 413 reason → 2 ≤ length ws → IsRetried ws place a
+halved_retried ws place a reason e some = subst (λ b. IsRetried ws place b) (sym e) (ap (λ b. b || is_retried_whole 413) (le-leb 2 (length ws) some))
 
 pub answers_end : AnswersEndFlight
 answers_end t ws place kind a answered e = answered (says_as t ws place kind a Flies e)

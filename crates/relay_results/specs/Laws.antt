@@ -17,7 +17,7 @@ use Rattle.relay_results.specs.Documents.{Document, document_of, lane_of, same_n
 use Rattle.relay_results.specs.Matching.{matches}
 use Rattle.relay_results.specs.Numbers.{from_one, from_zero}
 use Rattle.relay_results.specs.Outside.{Answer, Unanswered, Items, Whole, Ran, RunOutcome, stored_in, Outside, WasRun, IsHonest, write_at, MayRun, IsRefusal, IsOutcomeOf, is_applied, is_above, Event, MayHappen, after, IsStep, Continues}
-use Rattle.relay_results.specs.Fates.{Fate, Flies, Applied, Already, Retried, Halved, Reported, Tries, fate, kind_in, reason_in, HasEntry, IsRetried, says_too_large}
+use Rattle.relay_results.specs.Fates.{Fate, Flies, Applied, Already, Retried, Halved, Reported, Tries, fate, kind_in, reason_in, reason_at, HasEntry, IsRetried, says_too_large}
 
 -- ---- answers
 
@@ -58,15 +58,18 @@ Says t ws place kind a Already =
     (2 ≤ t.sends)
     × ((o : Outcome) × HasEntry ws place a o × (is_conflict o.status ≡ true) × (may_be_own (stored_in o.error) t.version ≡ true))
 Says t ws place kind a Retried = (t.attempts < t.max) × IsRetried ws place a × (says_too_large a ≡ false)
-Says t ws place kind a (Halved cap) = (a ≡ Whole 413) × (2 ≤ length ws) × (cap ≡ length ws / 2)
+Says t ws place kind a (Halved cap) =
+    ((reason : Option (List ℕ)) × (a ≡ Whole 413 reason)) × (2 ≤ length ws) × (cap ≡ length ws / 2)
 Says t ws place kind a (Reported (cause.Refused status error reason)) =
     (o : Outcome) × HasEntry ws place a o
     × IsRefused kind o.status (is_some o.error) × (o.status ≡ status) × (kind_in o.error ≡ error) × (reason_in o.error ≡ reason)
-Says t ws place kind a (Reported (cause.Request status)) = (a ≡ Whole status) × (is_sent_again (length ws) status ≡ false)
+Says t ws place kind a (Reported (cause.Request status reason)) =
+    ((given : Option (List ℕ)) × (a ≡ Whole status given) × (reason ≡ reason_at place given))
+    × (is_sent_again (length ws) status ≡ false)
 Says t ws place kind a (Reported (cause.Conflict stored reason)) =
     (o : Outcome) × HasEntry ws place a o
     × (is_conflict o.status ≡ true) × IsWithOther t o × (stored_in o.error ≡ stored) × (reason_in o.error ≡ reason)
-Says t ws place kind a (Reported (cause.GaveUp sends)) =
+Says t ws place kind a (Reported (cause.GaveUp sends tried)) =
     (sends ≡ t.sends) × (t.max ≤ t.attempts) × IsRetried ws place a × (says_too_large a ≡ false)
 Says t ws place kind a (Reported cause.Spent) = ⊥
 

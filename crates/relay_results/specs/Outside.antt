@@ -2,6 +2,7 @@
 use Rattle.std.specs.Prelude.{◌≡◌, ◌≢◌, ◌⊎◌, ℕ, suc, ◌≤◌, List, [], ◌∷◌, ◌++◌, slice_get, Option, Some, None, is_some, option_and_then, IsSome, IsTrue, Bool, true, false, nat_lt, if◌then◌else◌}
 use Rattle.relay_action.specs.Actions.{kind_of}
 use Rattle.relay_action.specs.declared.write.Write.{Write}
+use Rattle.relay_results.specs.declared.cause.Loss.{Loss}
 use Rattle.relay_results.specs.declared.outcome.ErrorDetail.{ErrorDetail}
 use Rattle.relay_results.specs.declared.outcome.Outcome.{Outcome}
 use Rattle.relay_results.specs.Words.{Mem, update}
@@ -12,12 +13,12 @@ use Rattle.relay_results.specs.Matching.{matches}
 -- ---- the sent requests
 
 -- The answer to a request: none yet; the entries of a readable reply of status 200; another status for the request as
--- a whole; or notice that no reply came.
+-- a whole, and the reason that is given for it, if one is; or notice that no reply came, and why.
 pub data Answer : Type 0 where
   Unanswered : Answer
   Items : List Outcome → Answer
-  Whole : ℕ → Answer
-  Lost : Answer
+  Whole : ℕ → Option (List ℕ) → Answer
+  Lost : Loss → Answer
 
 -- A sent request: its writes, and its answer. A send that failed counts as sent.
 pub record Request : Type 0 where
@@ -130,8 +131,8 @@ EachWasRun runs request place (o ∷ os) = WasRun runs request place o × EachWa
 abbrev pub IsHonest : List Ran → ℕ → List Write → Answer → Type 0
 IsHonest runs request ws Unanswered = ⊥
 IsHonest runs request ws (Items os) = IsTrue (matches os ws) → EachWasRun runs request 0 os
-IsHonest runs request ws (Whole status) = status ≢ 200
-IsHonest runs request ws Lost = Unit {0}
+IsHonest runs request ws (Whole status reason) = status ≢ 200
+IsHonest runs request ws (Lost why) = Unit {0}
 
 -- ---- what may happen
 

@@ -8,7 +8,9 @@ use Rattle.relay_results.specs.declared.reading.EntryFields.{EntryFields}
 use Rattle.relay_results.specs.declared.reading.Entries.{Entries}
 use Rattle.relay_results.specs.declared.reading.ErrorFields.{ErrorFields}
 use Rattle.relay_results.specs.declared.reading.Reply.{Reply}
-use Rattle.relay_results.specs.Replies.{ErrorTexts, error_texts, IsDetail, AreEntries, IsBadAt}
+use Rattle.relay_results.specs.declared.refusal.Given.{Given}
+use Rattle.relay_results.specs.declared.refusal.Reason.{Reason}
+use Rattle.relay_results.specs.Replies.{ErrorTexts, error_texts, IsDetail, AreEntries, IsBadAt, reason_given}
 
 -- ---- an error
 
@@ -67,3 +69,11 @@ HoldsItems found items = MatchOption found (items ≡ None) (λ e. (ds : Items) 
 
 abbrev pub HoldsReply : Reply → Members → Type 0
 HoldsReply reply ms = HoldsItems reply.entries (items_in ms)
+
+-- ---- a refusal of a whole request
+
+abbrev pub HoldsReason : Reason → Members → Type 0
+HoldsReason found ms = option_map (λ t. t.now) found.reason ≡ text_at (codes "reason") ms
+
+abbrev pub HoldsGiven : Given → Members → Type 0
+HoldsGiven found ms = option_map (λ t. t.now) found.reason ≡ option_and_then reason_given (get_member (codes "error") ms)

@@ -98,6 +98,17 @@ pub record IsBulkReply (text : List ℕ) (os : List Outcome) : Type 0 where
   pub items : HasItems value entries
   pub each : AreEntries entries os
 
+-- ---- what is said of a request that was refused as a whole
+
+-- the reason that an error gives: the error itself if it is a string, and otherwise its member `reason`
+abbrev pub reason_given : Data → Option (List ℕ)
+reason_given e = if is_some (as_str e) then as_str e else (error_texts e).reason
+
+-- what is kept of the reason in a body's member `error`; nothing if the body is not JSON
+pub data KeepsGiven (text : List ℕ) (kept : Option (List ℕ)) : Type 0 where
+  Given : (d : Data) → ReadsAs text d → KeepsReason (option_and_then reason_given (get (codes "error") d)) kept → KeepsGiven text kept
+  NotJson : ((d : Data) → ReadsAs text d → ⊥) → kept ≡ None → KeepsGiven text kept
+
 -- ---- what is not a reply
 
 -- the value is not a valid entry

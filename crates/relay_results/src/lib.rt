@@ -14,15 +14,17 @@ pub mod numeral;
 pub mod outcome;
 pub mod pairing;
 pub mod reading;
+pub mod refusal;
 mod stating;
 mod usual;
 pub mod writing;
 
-pub use cause::Cause;
+pub use cause::{Cause, LastTry, Loss};
 pub use decide::{ItemVerdict, verdict};
 pub use done::{DoneResult, ItemDone, VersionConflict};
 pub use numeral::number_of;
 pub use outcome::{ErrorDetail, Outcome};
 pub use pairing::matches;
 pub use reading::{ERROR_LIMIT, REASON_LIMIT, ReplyFault, read_reply};
+pub use refusal::read_refusal;
 pub use writing::write_reply;

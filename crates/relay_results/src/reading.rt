@@ -138,8 +138,8 @@ pub(crate) fn cut(text: &str, limit: usize) -> &str
     &text[..text.floor_char_boundary(limit)]
 }
 
-// What an outcome keeps of an error's reason.
-fn reason_of(alloc: Global, reason: Option<&str>) -> Result<Option<Text>, AllocError>
+// What is kept of an error's reason.
+pub(crate) fn reason_of(alloc: Global, reason: Option<&str>) -> Result<Option<Text>, AllocError>
     ensures { IfOk result (λ r. KeepsReason (option_map (λ t. t.now) reason.entry) r) }
 {
     match reason {

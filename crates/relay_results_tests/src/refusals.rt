@@ -2,8 +2,8 @@
 //! and the call succeeds when it is repeated.
 use relay_action::{ActionKind, DocKey};
 use relay_results::{
-    DoneResult, ErrorDetail, ItemDone, Outcome, ReplyFault, VersionConflict, read_reply,
-    write_reply,
+    DoneResult, ErrorDetail, ItemDone, Outcome, ReplyFault, VersionConflict, read_refusal,
+    read_reply, write_reply,
 };
 use std::alloc::{AllocError, Global};
 
@@ -111,4 +111,21 @@ fn refused_replies(rt: HostRuntime) {
     for text in [REPLY, USUAL] {
         assert!(rt; outcomes_of(rt.alloc(), text).is_some_and(|outcomes| are_read(&outcomes)));
     }
+}
+
+const REFUSED: &[u8] =
+    b"{\"error\":{\"type\":\"security_exception\",\"reason\":\"missing authentication credentials for [/_bulk]\"},\"status\":401}";
+
+// Whether the reason of a refused request is read, once memory suffices.
+fn is_given(alloc: Global) -> Option<bool> {
+    let reason = match read_refusal(alloc, REFUSED) {
+        Ok(reason) => reason,
+        Err(AllocError) => read_refusal(alloc, REFUSED).ok()?,
+    };
+    Some(reason?.as_str() == "missing authentication credentials for [/_bulk]")
+}
+
+#[test]
+fn refused_reasons(rt: HostRuntime) {
+    assert!(rt; is_given(rt.alloc()) == Some(true));
 }

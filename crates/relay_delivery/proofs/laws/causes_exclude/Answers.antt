@@ -1,4 +1,4 @@
-use Rattle.relay_delivery.proofs.Excluded.{settled, without_status, without_error, without_reason, not_after_two, no_unstated, not_busy, not_unsent, not_unanswered, not_retried, not_for_halves, not_when_halved, no_conflict}
+use Rattle.relay_delivery.proofs.Excluded.{settled, without_status, without_error, without_reason, not_after_two, no_unstated, not_busy, not_unsent, not_unanswered, not_without_reason, not_retried, not_for_halves, not_when_halved, no_conflict}
 use Rattle.relay_delivery.proofs.laws.causes_exclude.Goals as goal
 
 pub returns-clause-settled : goal.returns-clause-settled
@@ -18,6 +18,9 @@ returns-clause-unsent c = not_unsent
 
 pub returns-clause-unanswered : goal.returns-clause-unanswered
 returns-clause-unanswered c = not_unanswered
+
+pub returns-clause-without_given : goal.returns-clause-without_given
+returns-clause-without_given c = not_without_reason
 
 pub returns-clause-retried : goal.returns-clause-retried
 returns-clause-retried c = not_retried
