@@ -169,6 +169,11 @@ impl<S: Peek> Conn<S> {
     {
         self.held() == 0 && self.bytes.stream.is_quiet()
     }
+
+    /// Whether the call of the stream that failed last ran out of time.
+    pub fn has_timed_out(&self) -> bool {
+        self.bytes.stream.has_timed_out()
+    }
 }
 
 impl<S: ByteIn + Drop> Conn<S> {

@@ -6,10 +6,19 @@ ghost use Rattle.relay_http.specs.Connection.{HasNone};
 use relay_action::ByteStream;
 use thiserror::Error;
 
-/// No stream could be opened. The call is not repeated.
+/// Why no stream could be opened. The call is not repeated.
 #[derive(Clone, Copy, Debug, PartialEq, Eq, Error)]
-#[error("dial failed")]
-pub struct DialFault;
+pub enum DialFault {
+    /// The other end refused the connection.
+    #[error("connection refused")]
+    Refused,
+    /// The other end did not respond within the time limit.
+    #[error("connection timed out")]
+    TimedOut,
+    /// Another reason: the address is invalid or unknown, or cannot be reached.
+    #[error("dial failed")]
+    Unreachable,
+}
 
 /// Opens a stream to the index for each connection.
 pub trait Dial<S: ByteStream> {

@@ -12,6 +12,12 @@ pub trait Peek: ByteStream {
     /// does not wait, and it reads nothing. A stream that shows a byte that is left is not quiet.
     fn is_quiet(&self) -> bool
         ensures { IsTrue result → HasNone (Self.left self.now) };
+
+    /// Whether the call that failed last ran out of time. A stream without a time limit says that
+    /// it did not.
+    fn has_timed_out(&self) -> bool {
+        false
+    }
 }
 
 impl Peek for MemStream {

@@ -16,6 +16,6 @@ pub mod stream;
 
 pub use far_end::{LoopDial, LoopEnd};
 pub use loop_wire::{LoopWire, wire_to};
-pub use relay_lane::{Wire, WireFault, WireReply};
+pub use relay_lane::{Loss, Wire, WireReply};
 pub use relay_wires::{HttpWire, Peer};
 pub use stream::LoopStream;

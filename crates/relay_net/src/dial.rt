@@ -74,7 +74,11 @@ impl<R: Net> TcpDial<R> {
     {
         self.failed = self.failed.saturating_add(1);
         self.fault = Some(fault);
-        DialFault
+        match fault {
+            ErrorKind::ConnectionRefused => DialFault::Refused,
+            ErrorKind::TimedOut | ErrorKind::WouldBlock => DialFault::TimedOut,
+            _ => DialFault::Unreachable,
+        }
     }
 }
 

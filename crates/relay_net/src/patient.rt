@@ -43,11 +43,12 @@ impl<D, C: Clock> PatientDial<D, C> {
         }
     }
 
-    fn fail(&mut self) -> DialFault
-        ensures { self.new ≡ (self.old.0, self.old.1, one_more self.old.2, self.old.3) }
+    fn fail(&mut self, fault: DialFault) -> DialFault
+        ensures state { self.new ≡ (self.old.0, self.old.1, one_more self.old.2, self.old.3) }
+        ensures fault { result ≡ fault }
     {
         self.failed = self.failed.saturating_add(1);
-        DialFault
+        fault
     }
 
     // Whether the patience is used up, as far as the clock can tell.
@@ -77,7 +78,7 @@ impl<S: ByteStream, D: Dial<S>, C: Clock> Dial<S> for PatientDial<D, C> {
     /// since the start of the call are below `patience`. If the clock cannot be read, only their
     /// number is limited.
     ///
-    /// `DialFault`: each try failed.
+    /// `DialFault`: each try failed; that of the last one.
     fn dial(&mut self) -> Result<S, DialFault>
         ensures count { self.new.2 ≡ (if is_ok result then self.old.2 else one_more self.old.2) }
         ensures dialled { self.new.3 ≡ one_more self.old.3 }
@@ -88,18 +89,20 @@ impl<S: ByteStream, D: Dial<S>, C: Clock> Dial<S> for PatientDial<D, C> {
     {
         self.dialled = self.dialled.saturating_add(1);
         let start = Instant::now(&self.clock).ok();
-        if let Ok(stream) = self.dial.dial() {
-            return Ok(stream);
-        }
+        let mut fault = match self.dial.dial() {
+            Ok(stream) => return Ok(stream),
+            Err(fault) => fault,
+        };
         'tries: for _ in 0..self.patience {
             if self.is_over(start) {
                 break;
             }
             self.pause();
-            if let Ok(stream) = self.dial.dial() {
-                return Ok(stream);
+            match self.dial.dial() {
+                Ok(stream) => return Ok(stream),
+                Err(last) => fault = last,
             }
         }
-        Err(self.fail())
+        Err(self.fail(fault))
     }
 }

@@ -10,6 +10,11 @@ use std::marker::Model;
 use std::net::OpenStream;
 use std::time::{Clock, Duration, Instant};
 
+// Whether this is no time for a call to wait: a limit below a millisecond means none to a socket.
+fn is_none(left: Duration) -> bool {
+    left < Duration::from_millis(1)
+}
+
 /// The direction in which a connection is used.
 #[derive(Clone, Copy, Debug, PartialEq, Eq)]
 enum Direction {
@@ -31,6 +36,8 @@ pub struct TimedStream<T, C: Clock> {
     direction: Option<Direction>,
     start: Option<Instant>,
     failed: u64,
+    // Whether no time was left when a call failed last.
+    late: bool,
 }
 
 impl<T, C: Clock> Model for TimedStream<T, C> {
@@ -53,18 +60,24 @@ impl<T, C: Clock> TimedStream<T, C> {
             direction: None,
             start: None,
             failed: 0,
+            late: false,
         }
-    }
-
-    fn fail(&mut self) -> StreamFailed
-        ensures { self.new ≡ one_more self.old }
-    {
-        self.failed = self.failed.saturating_add(1);
-        StreamFailed
     }
 }
 
 impl<T: OpenStream, C: Clock> TimedStream<T, C> {
+    // Counts a failed call in this direction.
+    fn fail(&mut self, direction: Direction) -> StreamFailed
+        ensures { self.new ≡ one_more self.old }
+    {
+        self.late = match self.left(direction) {
+            Some(left) => is_none(left),
+            None => false,
+        };
+        self.failed = self.failed.saturating_add(1);
+        StreamFailed
+    }
+
     // How long the next call may wait in this direction. `None`: there is no limit, or it cannot be
     // told.
     fn left(&mut self, direction: Direction) -> Option<Duration>
@@ -88,7 +101,7 @@ impl<T: OpenStream, C: Clock> TimedStream<T, C> {
         let Some(left) = self.left(direction) else {
             return true;
         };
-        if left < Duration::from_millis(1) {
+        if is_none(left) {
             return false;
         }
         let socket = self.stream.get_ref();
@@ -113,11 +126,11 @@ impl<T: OpenStream + Read, C: Clock> ByteIn for TimedStream<T, C> {
     /// Reads as [`StdStream`] does. It fails if the message is not read within the limit.
     fn read(&mut self, buffer: &mut [u8]) -> Result<usize, StreamFailed> {
         if !self.has_time(Direction::Reading) {
-            return Err(self.fail());
+            return Err(self.fail(Direction::Reading));
         }
         match self.stream.read(buffer) {
             Ok(count) => Ok(count),
-            Err(_) => Err(self.fail()),
+            Err(_) => Err(self.fail(Direction::Reading)),
         }
     }
 }
@@ -126,12 +139,12 @@ impl<T: OpenStream + Write, C: Clock> ByteOut for TimedStream<T, C> {
     /// Writes as [`StdStream`] does. It fails if the message is not written within the limit.
     fn write(&mut self, bytes: &[u8]) -> Result<usize, StreamFailed> {
         if !self.has_time(Direction::Writing) {
-            return Err(self.fail());
+            return Err(self.fail(Direction::Writing));
         }
         match self.stream.write(bytes) {
-            Ok(0) if !bytes.is_empty() => Err(self.fail()),
+            Ok(0) if !bytes.is_empty() => Err(self.fail(Direction::Writing)),
             Ok(count) => Ok(count),
-            Err(_) => Err(self.fail()),
+            Err(_) => Err(self.fail(Direction::Writing)),
         }
     }
 }
@@ -140,6 +153,11 @@ impl<T: OpenStream, C: Clock> Peek for TimedStream<T, C> {
     /// As for the stream inside, whatever time is left.
     fn is_quiet(&self) -> bool {
         self.stream.is_quiet()
+    }
+
+    /// Whether the message had no time left when a call failed last.
+    fn has_timed_out(&self) -> bool {
+        self.late
     }
 }
 

@@ -71,7 +71,11 @@ impl Dial<Nothing> for Failing<'_> {
         }
         self.failures -= 1;
         self.failed = self.failed.saturating_add(1);
-        Err(DialFault)
+        Err(if self.failures == 0 {
+            DialFault::TimedOut
+        } else {
+            DialFault::Refused
+        })
     }
 }
 
@@ -117,4 +121,31 @@ fn tries_until_the_time_is_over(rt: HostRuntime) {
             "patience {patience}, failures {failures}"
         );
     }
+}
+
+// The fault of a dial that fails this many times, after more tries than it has patience for.
+fn fault_of(patience: u32, failures: u32) -> Option<DialFault> {
+    let seconds = AtomicU64::new(0);
+    let clock = Slept {
+        seconds: &seconds,
+        is_read: true,
+    };
+    let failing = Failing {
+        failures,
+        cost: 0,
+        seconds: &seconds,
+        failed: 0,
+        dialled: 0,
+    };
+    PatientDial::new(failing, clock, patience).dial().err()
+}
+
+// Each failure of the dial is a refusal, but its last, which is a time-out: what is told is why the
+// last try failed.
+#[test]
+fn tells_why_the_last_try_failed(rt: HostRuntime) {
+    assert!(rt; fault_of(3, 0) == None);
+    assert!(rt; fault_of(3, 5) == Some(DialFault::Refused));
+    assert!(rt; fault_of(3, 4) == Some(DialFault::TimedOut));
+    assert!(rt; fault_of(0, 1) == Some(DialFault::TimedOut));
 }

@@ -1,7 +1,7 @@
 //! Calls on connections with a time limit.
 use crate::listening::address_of;
 use relay_action::{ByteIn, ByteOut};
-use relay_http::Listen;
+use relay_http::{Listen, Peek};
 use relay_net::{TcpDial, TcpListen, TimedDial};
 use relay_wires::Dial;
 use std::alloc::Global;
@@ -37,15 +37,15 @@ fn a_read_that_waits_too_long(rt: HostRuntime) {
 }
 
 // Whether a second read fails on a connection on which a byte arrives and nothing more, and the
-// calls are not limited themselves.
+// calls are not limited themselves; and whether it then says that it ran out of time, and not before.
 fn second_read_fails<R: Net + Clock + Copy>(alloc: Global, rt: R) -> Option<bool> {
     let mut listener = TcpListen::bind(&rt, "127.0.0.1:0").ok()?;
     let dial = TcpDial::new(rt, address_of(alloc, &listener)?);
     let mut stream = TimedDial::new(dial, rt, 1).dial().ok()?;
     let mut peer = listener.accept().ok()?;
     let sent = peer.write(b"x").ok()?;
-    let first = stream.read(&mut [0; 1]).is_ok();
-    let second = stream.read(&mut [0; 1]).is_err();
+    let first = stream.read(&mut [0; 1]).is_ok() && !stream.has_timed_out();
+    let second = stream.read(&mut [0; 1]).is_err() && stream.has_timed_out();
     listener.close(peer);
     Some(sent == 1 && first && second)
 }

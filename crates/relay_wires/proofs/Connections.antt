@@ -7,10 +7,10 @@ use Rattle.relay_action.specs.declared.write.Write.{Write}
 use Rattle.relay_http.specs.Connection.{Connection, is_open, phase_of, after_reply, after_write}
 use Rattle.relay_http.specs.declared.fault.HttpFault.{HttpFault}
 use Rattle.relay_http.specs.declared.reply.HttpReply.{HttpReply}
-use Rattle.relay_lane.specs.declared.wire.WireFault.{WireFault}
-use Rattle.relay_lane.specs.declared.wire.WireFault.TheVariants as fault
+use Rattle.relay_results.specs.declared.cause.Loss.{Loss}
+use Rattle.relay_results.specs.declared.cause.Loss.TheVariants as loss
 use Rattle.relay_wires.specs.Numbers.{entry_of, besides}
-use Rattle.relay_wires.specs.Carriers.{Carrier, AllFree, IsFree, AllOutFree, Picks, PicksOne, IsToldWritten, Sends, WritesOn, fault_sent, out_after}
+use Rattle.relay_wires.specs.Carriers.{Carrier, AllFree, IsFree, AllOutFree, Picks, DialsNone, PicksOne, IsToldWritten, Sends, WritesOn, out_after}
 
 pub free_push : (cs : List Connection) (c : Connection) → AllFree cs → IsFree c → AllFree (cs ++ c ∷ [])
 free_push [] c all last = (last, tt)
@@ -64,23 +64,22 @@ all_free_after reply d free is all = elim (eqb_tells (length d.held) 0) [
 abbrev carrier : {P : Type 0} → P → (host : List ℕ) (most : ℕ) (out : List (ℕ × Connection)) (free : List Connection) (failed dialled : ℕ) → Carrier P
 carrier peer host most out free failed dialled = record { host = host; most = most; out = out; free = free; failed = failed; dialled = dialled; peer = peer }
 
--- the lane gets the result with its fault mapped
-pub told_written : (r : Result (Unit {0}) HttpFault) (s : Result (Unit {0}) WireFault)
-    → MatchResult r (λ u. s ≡ Ok u) (λ e. IsErrAnd s (λ f. f ≡ fault_sent e)) → IsToldWritten r s
-told_written (Ok u) s is = is
-told_written (Err e) (Ok u) is = absurd is
-told_written (Err e) (Err f) is = ap Err is
+dialled_none : {P : Type 0} (peer : P) (host : List ℕ) (most : ℕ) (out : List (ℕ × Connection)) (later : List Connection) (failed counted before after : ℕ)
+    → DialsNone later failed counted before after → carrier peer host most out later counted after ≡ carrier peer host most out [] (one_more failed) (one_more before)
+dialled_none peer host most out later failed counted before after p =
+    ap (λ x. carrier peer host most out x counted after) p.0 ∙ ap (λ n. carrier peer host most out [] n after) p.1 ∙ ap (carrier peer host most out [] (one_more failed)) p.2
 
-pub sends_none : {P : Type 0} (peer : P) (number : ℕ) (ws : List Write) (host : List ℕ) (most : ℕ) (out : List (ℕ × Connection)) (free later : List Connection) (failed counted before after : ℕ) (f : WireFault)
+pub sends_none : {P : Type 0} (peer : P) (number : ℕ) (ws : List Write) (host : List ℕ) (most : ℕ) (out : List (ℕ × Connection)) (free later : List Connection) (failed counted before after : ℕ) (f : Loss)
     → PicksOne free later failed counted before after (Err f) → Sends number ws (carrier peer host most out free failed before) (carrier peer host most out later counted after) (Err f)
-sends_none peer number ws host most out free later failed counted before after fault.Send p =
-    inr (inr (ap (λ x. carrier peer host most out x counted after) p.0 ∙ ap (λ n. carrier peer host most out [] n after) p.1 ∙ ap (carrier peer host most out [] (one_more failed)) p.2))
-sends_none peer number ws host most out free later failed counted before after fault.Lost p = absurd p
-sends_none peer number ws host most out free later failed counted before after fault.Unreadable p = absurd p
-sends_none peer number ws host most out free later failed counted before after fault.Memory p =
+sends_none peer number ws host most out free later failed counted before after loss.Refused p = inr (dialled_none peer host most out later failed counted before after p)
+sends_none peer number ws host most out free later failed counted before after loss.Unreachable p = inr (inr (dialled_none peer host most out later failed counted before after p))
+sends_none peer number ws host most out free later failed counted before after loss.TimedOut p = inr (dialled_none peer host most out later failed counted before after p)
+sends_none peer number ws host most out free later failed counted before after loss.Closed p = absurd p
+sends_none peer number ws host most out free later failed counted before after loss.Unreadable p = absurd p
+sends_none peer number ws host most out free later failed counted before after loss.Memory p =
     inr (ap (λ x. carrier peer host most out x counted after) p.0 ∙ ap (λ n. carrier peer host most out [] n after) p.1 ∙ ap (carrier peer host most out [] failed) p.2)
 
-pub sends_on : {P : Type 0} (peer : P) (number : ℕ) (ws : List Write) (host : List ℕ) (most : ℕ) (out items : List (ℕ × Connection)) (free later : List Connection) (failed counted before after : ℕ) (c d : Connection) (result : Result (Unit {0}) WireFault)
+pub sends_on : {P : Type 0} (peer : P) (number : ℕ) (ws : List Write) (host : List ℕ) (most : ℕ) (out items : List (ℕ × Connection)) (free later : List Connection) (failed counted before after : ℕ) (c d : Connection) (result : Result (Unit {0}) Loss)
     → PicksOne free later failed counted before after (Ok c) → WritesOn host ws c d result → items ≡ out_after number result d out → Sends number ws (carrier peer host most out free failed before) (carrier peer host most items later counted after) result
 sends_on peer number ws host most out items free later failed counted before after c d result p w e =
     inl (record {
@@ -94,9 +93,9 @@ sends_on peer number ws host most out items free later failed counted before aft
 -- ---- what always holds, after a request was sent
 
 -- a connection on which a request was written may carry further messages
-pub open_written : (r : Result (Unit {0}) HttpFault) (d : Connection) → IsToldWritten r (Ok tt) → d.phase ≡ after_write true r → IsTrue (is_open d.phase)
-open_written (Ok u) d told is = ap is_open is
-open_written (Err e) d told is = absurd (cc)
+pub open_written : (r : Result (Unit {0}) HttpFault) (d : Connection) (late : Bool) → IsToldWritten late r (Ok tt) → d.phase ≡ after_write true r → IsTrue (is_open d.phase)
+open_written (Ok u) d late told is = ap is_open is
+open_written (Err e) d late told is = absurd (cc)
 
 -- a connection that was picked holds no byte
 pub picked_clear : (before after : ℕ) (free later : List Connection) (c : Connection) → Picks free later before after c → c.held ≡ []
@@ -105,7 +104,7 @@ picked_clear before after free later c (inr p) = ap (λ (x : Connection). x.held
 
 pub open_after : (number before after : ℕ) (host : List ℕ) (ws : List Write) (out items : List (ℕ × Connection)) (free later : List Connection) (c d : Connection) → Picks free later before after c → WritesOn host ws c d (Ok tt) → items ≡ (number, d) ∷ out → AllOutFree out → AllOutFree items
 open_after number before after host ws out items free later c d p w e all =
-    subst AllOutFree (sym e) (record { lasts = open_written w.write d w.told w.writes.phase; clear = w.writes.held ∙ picked_clear before after free later c p }, all)
+    subst AllOutFree (sym e) (record { lasts = open_written w.write d w.late w.told w.writes.phase; clear = w.writes.held ∙ picked_clear before after free later c p }, all)
 
 pub few_after : (number most before after : ℕ) (out items : List (ℕ × Connection)) (free later : List Connection) (c d : Connection) → Picks free later before after c → items ≡ (number, d) ∷ out → length out + length free ≤ most → length out < most → length items + length later ≤ most
 few_after number most before after out items free later c d (inl t) e few room =

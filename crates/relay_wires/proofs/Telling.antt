@@ -18,8 +18,8 @@ use Rattle.relay_http.specs.declared.fault.HttpFault.{HttpFault}
 use Rattle.relay_http.specs.declared.reply.HttpReply.{HttpReply}
 use Rattle.relay_lane.specs.declared.wire.WireReply.{WireReply}
 use Rattle.relay_lane.specs.declared.wire.WireReply.TheVariants as reply
-use Rattle.relay_lane.specs.declared.wire.WireFault.{WireFault}
-use Rattle.relay_lane.specs.declared.wire.WireFault.TheVariants as fault
+use Rattle.relay_results.specs.declared.cause.Loss.{Loss}
+use Rattle.relay_results.specs.declared.cause.Loss.TheVariants as loss
 use Rattle.relay_lane.specs.Wires.{answer_of, IsWireReply, AreRuns, RunsOn, SendsOn, AnswersOn, ExchangesOn, IsNext}
 use Rattle.relay_wires.specs.Numbers.{numbers, entry_of, besides}
 use Rattle.relay_wires.specs.Peers.{MayGo, IsWritten, IsOpenAt, IsAsked, IsHonestLeft, RunsThen}
@@ -121,11 +121,13 @@ unwritten_freed (Ok reply) d cs u all = unwritten_if (reply.keep && (length d.he
 unwritten_freed (Err f) d cs u all = all
 
 -- no connection is free if none was picked
-pub picked_none : (f : WireFault) (free later : List Connection) (failed counted before after : ℕ) → PicksOne free later failed counted before after (Err f) → AllUnwritten later
-picked_none fault.Send free later failed counted before after p = subst AllUnwritten (sym p.0) tt
-picked_none fault.Lost free later failed counted before after p = absurd p
-picked_none fault.Unreadable free later failed counted before after p = absurd p
-picked_none fault.Memory free later failed counted before after p = subst AllUnwritten (sym p.0) tt
+pub picked_none : (f : Loss) (free later : List Connection) (failed counted before after : ℕ) → PicksOne free later failed counted before after (Err f) → AllUnwritten later
+picked_none loss.Refused free later failed counted before after p = subst AllUnwritten (sym p.0) tt
+picked_none loss.Unreachable free later failed counted before after p = subst AllUnwritten (sym p.0) tt
+picked_none loss.TimedOut free later failed counted before after p = subst AllUnwritten (sym p.0) tt
+picked_none loss.Closed free later failed counted before after p = absurd p
+picked_none loss.Unreadable free later failed counted before after p = absurd p
+picked_none loss.Memory free later failed counted before after p = subst AllUnwritten (sym p.0) tt
 
 pub written_alone : (host : List ℕ) (ws : List Write) (old new : Option (List ℕ)) → HasNone old → new ≡ append_known old (request host (text_of ws)) → IsWritten host ws new
 written_alone host ws None new u e = subst (IsWritten host ws) (sym e) tt
@@ -136,7 +138,7 @@ written_alone host ws (Some bytes) new u e =
 pub written_on : (host : List ℕ) (ws : List Write) (c d : Connection) → WritesOn host ws c d (Ok tt) → HasNone c.written → IsWritten host ws d.written
 written_on host ws c d w u = by w.write w.writes w.told
   where
-    by : (r : Result (Unit {0}) HttpFault) → Writes host ws c d r → IsToldWritten r (Ok tt) → IsWritten host ws d.written
+    by : (r : Result (Unit {0}) HttpFault) → Writes host ws c d r → IsToldWritten w.late r (Ok tt) → IsWritten host ws d.written
     by (Ok v) x told = written_alone host ws c.written d.written u x.sent
     by (Err f) x told = absurd (cc)
 
@@ -185,18 +187,18 @@ module _ {P : Type 0} (fits : P → Outside → Type 0) (keeps_sent : (p : P) (o
   answered_same q place a = λ k ne. at-update_other place (λ (r : Request). record { writes = writes_of r; answer = a }) q.requests k ne
 
   -- the request could not be sent, which counts as sent and lost
-  pub unsent_fits : (w v : Carrier P) (o : Outside) (number : ℕ) (ws : List Write) → IsNext number o
+  pub unsent_fits : (why : Loss) (w v : Carrier P) (o : Outside) (number : ℕ) (ws : List Write) → IsNext number o
       → v.host ≡ w.host → v.peer ≡ w.peer → v.out ≡ w.out → AllUnwritten v.free
-      → Fits fits w o → (p : Outside) × Fits fits v p × ExchangesOn number ws Lost o p
-  unsent_fits w v o number ws next host peer out free x =
+      → Fits fits w o → (p : Outside) × Fits fits v p × ExchangesOn number ws (Lost why) o p
+  unsent_fits why w v o number ws next host peer out free x =
       let q = after (Sends ws) o in
-      let p = after (Answers (from_zero number) Lost) q in
+      let p = after (Answers (from_zero number) (Lost why)) q in
       let before = subst (λ k. AllBefore k (numbers w.out)) (next_place o number next) (all_before w.host w.out o x.out) in
-      let may : MayAnswer q (from_zero number) Lost = record { request = record { writes = ws; answer = Unanswered }; sent = is_sent o number ws next; open_yet = refl; honest = tt } in
-      let outs : AreOut w.host w.out p = all_still w.host w.out (from_zero number) q p (answered_same q (from_zero number) Lost) before (sent_still w.host w.out o ws x.out) in (
+      let may : MayAnswer q (from_zero number) (Lost why) = record { request = record { writes = ws; answer = Unanswered }; sent = is_sent o number ws next; open_yet = refl; honest = tt } in
+      let outs : AreOut w.host w.out p = all_still w.host w.out (from_zero number) q p (answered_same q (from_zero number) (Lost why)) before (sent_still w.host w.out o ws x.out) in (
         p,
         record {
-          peer = subst (λ e. fits e p) (sym peer) (keeps_answered w.peer q (from_zero number) Lost (keeps_sent w.peer o ws x.peer));
+          peer = subst (λ e. fits e p) (sym peer) (keeps_answered w.peer q (from_zero number) (Lost why) (keeps_sent w.peer o ws x.peer));
           out = subst (λ h. AreOut h v.out p) (sym host) (subst (λ es. AreOut w.host es p) (sym out) outs);
           free = free;
         },
@@ -239,12 +241,12 @@ nothing_ahead held None e = refl
 nothing_ahead held (Some bytes) e = ap (λ (h : List ℕ). Some (h ++ bytes)) e
 
 -- what is returned is honest if what was left to read was
-pub told_honest : (number : ℕ) (ws : List Write) (p : Outside) (c d : Connection) (read : Result HttpReply HttpFault) (result : Result WireReply WireFault) → Reads c d read → IsTold read result → c.held ≡ [] → IsWireReply result → IsHonestLeft number ws p c.left
+pub told_honest : (number : ℕ) (ws : List Write) (p : Outside) (c d : Connection) (late : Bool) (read : Result HttpReply HttpFault) (result : Result WireReply Loss) → Reads c d read → IsTold late read result → c.held ≡ [] → IsWireReply result → IsHonestLeft number ws p c.left
     → IsHonest p.runs (from_zero number) ws (answer_of result)
-told_honest number ws p c d (Ok r) (Ok (reply.Items os)) reads told clear is honest =
+told_honest number ws p c d late (Ok r) (Ok (reply.Items os)) reads told clear is honest =
     let took : Took IsReplyMessage c.left (ahead d) (reply_view r) = subst (λ l. Took IsReplyMessage l (ahead d) (reply_view r)) (nothing_ahead c.held c.left clear) reads.answer in
     honest (reply_view r) (ahead d) took told.0 os.items told.1
-told_honest number ws p c d (Ok r) (Ok (reply.Whole status)) reads told clear is honest = is
-told_honest number ws p c d (Ok r) (Err f) reads told clear is honest = tt
-told_honest number ws p c d (Err e) (Ok x) reads told clear is honest = absurd (cc)
-told_honest number ws p c d (Err e) (Err f) reads told clear is honest = tt
+told_honest number ws p c d late (Ok r) (Ok (reply.Whole status reason)) reads told clear is honest = is
+told_honest number ws p c d late (Ok r) (Err f) reads told clear is honest = tt
+told_honest number ws p c d late (Err e) (Ok x) reads told clear is honest = absurd (cc)
+told_honest number ws p c d late (Err e) (Err f) reads told clear is honest = tt

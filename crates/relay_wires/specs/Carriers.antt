@@ -6,12 +6,14 @@ use Rattle.relay_http.specs.Connection.{Connection, IsQuiet, HasNone, ahead, fre
 use Rattle.relay_http.specs.Forms.{Begins, Took, Fails, IsOutside, IsThatOrOutside}
 use Rattle.relay_http.specs.Reply.{IsReplyMessage, ReplyStates, ReplyPasses, reply_view}
 use Rattle.relay_http.specs.WrittenRequest.{is_host, SendsRequest}
+use Rattle.relay_http.specs.declared.dial.DialFault.{DialFault}
+use Rattle.relay_http.specs.declared.dial.DialFault.TheVariants as dial
 use Rattle.relay_http.specs.declared.fault.HttpFault.{HttpFault}
 use Rattle.relay_http.specs.declared.fault.HttpFault.TheVariants as http
 use Rattle.relay_http.specs.declared.reply.HttpReply.{HttpReply}
 use Rattle.relay_lane.specs.declared.wire.WireReply.{WireReply}
-use Rattle.relay_lane.specs.declared.wire.WireFault.{WireFault}
-use Rattle.relay_lane.specs.declared.wire.WireFault.TheVariants as fault
+use Rattle.relay_results.specs.declared.cause.Loss.{Loss}
+use Rattle.relay_results.specs.declared.cause.Loss.TheVariants as loss
 use Rattle.relay_wires.specs.Numbers.{entry_of, besides}
 use Rattle.relay_wires.specs.Meaning.{Tells}
 
@@ -82,57 +84,66 @@ pub record Writes (host : List ℕ) (ws : List Write) (c d : Connection) (r : Re
   pub left : d.left ≡ c.left
   pub held : d.held ≡ c.held
 
--- a fault of a connection while writing means that the request was not sent, except for a failed allocation
-abbrev pub fault_sent : HttpFault → WireFault
-fault_sent http.Malformed = fault.Send
-fault_sent http.HeadLong = fault.Send
-fault_sent http.BodyLong = fault.Send
-fault_sent http.CodedBody = fault.Send
-fault_sent http.BothLengths = fault.Send
-fault_sent http.Ended = fault.Send
-fault_sent http.Read = fault.Send
-fault_sent http.Write = fault.Send
-fault_sent http.TooManyInterim = fault.Send
-fault_sent http.Memory = fault.Memory
-fault_sent http.Broken = fault.Send
+-- a failed call of a stream may have run out of time
+abbrev pub loss_of_call : Bool → Loss
+loss_of_call late = if late then loss.TimedOut else loss.Closed
+
+-- what a fault of a connection means to the lane
+abbrev pub loss_by : Bool → HttpFault → Loss
+loss_by late http.Malformed = loss.Unreadable
+loss_by late http.HeadLong = loss.Unreadable
+loss_by late http.BodyLong = loss.Unreadable
+loss_by late http.CodedBody = loss.Unreadable
+loss_by late http.BothLengths = loss.Unreadable
+loss_by late http.Ended = loss.Closed
+loss_by late http.Read = loss_of_call late
+loss_by late http.Write = loss_of_call late
+loss_by late http.TooManyInterim = loss.Unreadable
+loss_by late http.Memory = loss.Memory
+loss_by late http.Broken = loss.Closed
 
 -- what the result of writing means to the lane
-abbrev pub IsToldWritten : Result (Unit {0}) HttpFault → Result (Unit {0}) WireFault → Type 0
-IsToldWritten (Ok u) result = result ≡ Ok u
-IsToldWritten (Err f) result = result ≡ Err (fault_sent f)
+abbrev pub IsToldWritten : Bool → Result (Unit {0}) HttpFault → Result (Unit {0}) Loss → Type 0
+IsToldWritten late (Ok u) result = result ≡ Ok u
+IsToldWritten late (Err f) result = result ≡ Err (loss_by late f)
 
 -- the request with these writes was written on a connection as far as it could be, and the lane gets the result
-pub record WritesOn (host : List ℕ) (ws : List Write) (c d : Connection) (result : Result (Unit {0}) WireFault) : Type 0 where
+pub record WritesOn (host : List ℕ) (ws : List Write) (c d : Connection) (result : Result (Unit {0}) Loss) : Type 0 where
   pub write : Result (Unit {0}) HttpFault
   pub writes : Writes host ws c d write
-  pub told : IsToldWritten write result
+  pub late : Bool
+  pub told : IsToldWritten late write result
 
 -- the request is then outstanding on that connection; after a fault the connection is dropped
-abbrev pub out_after : ℕ → Result (Unit {0}) WireFault → Connection → List (ℕ × Connection) → List (ℕ × Connection)
+abbrev pub out_after : ℕ → Result (Unit {0}) Loss → Connection → List (ℕ × Connection) → List (ℕ × Connection)
 out_after number (Ok u) d out = (number, d) ∷ out
 out_after number (Err f) d out = out
 
 -- sending a request on the connection that was picked
-pub record SendsOn {P : Type 0} (number : ℕ) (ws : List Write) (old new : Carrier P) (result : Result (Unit {0}) WireFault) : Type 0 where
+pub record SendsOn {P : Type 0} (number : ℕ) (ws : List Write) (old new : Carrier P) (result : Result (Unit {0}) Loss) : Type 0 where
   pub connection : Connection
   pub picks : Picks old.free new.free old.dialled new.dialled connection
   pub left : Connection
   pub carried : WritesOn old.host ws connection left result
   pub after : new ≡ record old { out = out_after number result left old.out; free = new.free; dialled = new.dialled }
 
--- No connection was picked: the maximum number of requests is outstanding, or no free connection is quiet and the dial
--- failed, or allocating the window of a fresh connection did.
-abbrev pub PicksNone : {P : Type 0} → Carrier P → Carrier P → Result (Unit {0}) WireFault → Type 0
+-- no free connection is quiet, and the dial failed
+abbrev pub DialFails : {P : Type 0} → Carrier P → Carrier P → Type 0
+DialFails old new = new ≡ record old { free = []; failed = one_more old.failed; dialled = one_more old.dialled }
+
+-- No connection was picked: the maximum number of requests is outstanding, or the dial failed, or allocating the window
+-- of a fresh connection did.
+abbrev pub PicksNone : {P : Type 0} → Carrier P → Carrier P → Result (Unit {0}) Loss → Type 0
 PicksNone old new (Ok u) = ⊥
-PicksNone old new (Err fault.Send) =
-    ((old.most ≤ length old.out) × (new ≡ old))
-    ⊎ (new ≡ record old { free = []; failed = one_more old.failed; dialled = one_more old.dialled })
-PicksNone old new (Err fault.Lost) = ⊥
-PicksNone old new (Err fault.Unreadable) = ⊥
-PicksNone old new (Err fault.Memory) = new ≡ record old { free = []; dialled = one_more old.dialled }
+PicksNone old new (Err loss.Refused) = DialFails old new
+PicksNone old new (Err loss.Unreachable) = ((old.most ≤ length old.out) × (new ≡ old)) ⊎ DialFails old new
+PicksNone old new (Err loss.TimedOut) = DialFails old new
+PicksNone old new (Err loss.Closed) = ⊥
+PicksNone old new (Err loss.Unreadable) = ⊥
+PicksNone old new (Err loss.Memory) = new ≡ record old { free = []; dialled = one_more old.dialled }
 
 -- Sending a request with these writes: it is written on the connection that was picked, if one was.
-abbrev pub Sends : {P : Type 0} → ℕ → List Write → Carrier P → Carrier P → Result (Unit {0}) WireFault → Type 0
+abbrev pub Sends : {P : Type 0} → ℕ → List Write → Carrier P → Carrier P → Result (Unit {0}) Loss → Type 0
 Sends number ws old new result = SendsOn number ws old new result ⊎ PicksNone old new result
 
 -- ---- a reply is received
@@ -149,24 +160,10 @@ pub record Reads (c d : Connection) (r : Result HttpReply HttpFault) : Type 0 wh
   pub failed : d.failed ≡ failed_reading r c.failed
   pub written : d.written ≡ c.written
 
--- a fault of a connection while reading is a lost reply, except for a failed allocation
-abbrev pub fault_received : HttpFault → WireFault
-fault_received http.Malformed = fault.Lost
-fault_received http.HeadLong = fault.Lost
-fault_received http.BodyLong = fault.Lost
-fault_received http.CodedBody = fault.Lost
-fault_received http.BothLengths = fault.Lost
-fault_received http.Ended = fault.Lost
-fault_received http.Read = fault.Lost
-fault_received http.Write = fault.Lost
-fault_received http.TooManyInterim = fault.Lost
-fault_received http.Memory = fault.Memory
-fault_received http.Broken = fault.Lost
-
 -- what the reply that was read means to the lane
-abbrev pub IsTold : Result HttpReply HttpFault → Result WireReply WireFault → Type 0
-IsTold (Ok reply) result = Tells (reply_view reply) result
-IsTold (Err f) result = result ≡ Err (fault_received f)
+abbrev pub IsTold : Bool → Result HttpReply HttpFault → Result WireReply Loss → Type 0
+IsTold late (Ok reply) result = Tells (reply_view reply) result
+IsTold late (Err f) result = result ≡ Err (loss_by late f)
 
 -- a connection that may carry further messages is then free, unless bytes beyond the reply were read with it
 abbrev pub free_after : Result HttpReply HttpFault → Connection → List Connection → List Connection
@@ -181,7 +178,7 @@ pub record Heard (describes : Bool) (c d : Connection) : Type 0 where
   pub phase : d.phase ≡ c.phase
 
 -- the reply is read from the connection of the request, and what is returned follows from it by the table of statuses
-pub record BringsOn {P : Type 0} (describes : P → Bool) (does : P → P → ℕ → Option (List ℕ) → Option (Option (List ℕ)) → Type 0) (number : ℕ) (old new : Carrier P) (result : Result WireReply WireFault) : Type 0 where
+pub record BringsOn {P : Type 0} (describes : P → Bool) (does : P → P → ℕ → Option (List ℕ) → Option (Option (List ℕ)) → Type 0) (number : ℕ) (old new : Carrier P) (result : Result WireReply Loss) : Type 0 where
   pub connection : Connection
   pub out_on : entry_of number old.out ≡ Some connection
   pub heard : Connection
@@ -190,20 +187,21 @@ pub record BringsOn {P : Type 0} (describes : P → Bool) (does : P → P → �
   pub left : Connection
   pub read : Result HttpReply HttpFault
   pub reads : Reads heard left read
-  pub told : IsTold read result
+  pub late : Bool
+  pub told : IsTold late read result
   pub after : new ≡ record old { out = besides number old.out; free = free_after read left old.free; peer = new.peer }
 
 -- an allocation failed at the far end, and the connection is dropped; this is no far end of another process
-pub record BringsNone {P : Type 0} (describes : P → Bool) (does : P → P → ℕ → Option (List ℕ) → Option (Option (List ℕ)) → Type 0) (number : ℕ) (old new : Carrier P) (result : Result WireReply WireFault) : Type 0 where
+pub record BringsNone {P : Type 0} (describes : P → Bool) (does : P → P → ℕ → Option (List ℕ) → Option (Option (List ℕ)) → Type 0) (number : ℕ) (old new : Carrier P) (result : Result WireReply Loss) : Type 0 where
   pub described : describes old.peer ≡ true
   pub connection : Connection
   pub out_on : entry_of number old.out ≡ Some connection
   pub done : does old.peer new.peer number connection.written None
-  pub memory : result ≡ Err fault.Memory
+  pub memory : result ≡ Err loss.Memory
   pub after : new ≡ record old { out = besides number old.out; peer = new.peer }
 
 -- Receiving the reply to the request with a number.
-abbrev pub Brings : {P : Type 0} → (P → Bool) → (P → P → ℕ → Option (List ℕ) → Option (Option (List ℕ)) → Type 0) → ℕ → Carrier P → Carrier P → Result WireReply WireFault → Type 0
+abbrev pub Brings : {P : Type 0} → (P → Bool) → (P → P → ℕ → Option (List ℕ) → Option (Option (List ℕ)) → Type 0) → ℕ → Carrier P → Carrier P → Result WireReply Loss → Type 0
 Brings describes does number old new result = BringsOn describes does number old new result ⊎ BringsNone describes does number old new result
 
 -- ---- the results of private steps
@@ -213,18 +211,31 @@ abbrev pub FindsFree : List Connection → List Connection → Option Connection
 FindsFree old new (Some c) = TakesFree old new c × IsTrue (is_open c.phase)
 FindsFree old new None = new ≡ []
 
+-- what a dial that failed means to the lane
+abbrev pub loss_dialled : DialFault → Loss
+loss_dialled dial.Refused = loss.Refused
+loss_dialled dial.TimedOut = loss.TimedOut
+loss_dialled dial.Unreachable = loss.Unreachable
+
+-- none is free, and the dial failed
+abbrev pub DialsNone : List Connection → ℕ → ℕ → ℕ → ℕ → Type 0
+DialsNone new failed later before after = (new ≡ []) × (later ≡ one_more failed) × (after ≡ one_more before)
+
 -- a connection is picked, unless the dial failed or allocating a fresh one's window did
-abbrev pub PicksOne : List Connection → List Connection → ℕ → ℕ → ℕ → ℕ → Result Connection WireFault → Type 0
+abbrev pub PicksOne : List Connection → List Connection → ℕ → ℕ → ℕ → ℕ → Result Connection Loss → Type 0
 PicksOne old new failed later before after (Ok c) = Picks old new before after c × IsTrue (is_open c.phase) × (later ≡ failed)
-PicksOne old new failed later before after (Err fault.Send) = (new ≡ []) × (later ≡ one_more failed) × (after ≡ one_more before)
-PicksOne old new failed later before after (Err fault.Lost) = ⊥
-PicksOne old new failed later before after (Err fault.Unreadable) = ⊥
-PicksOne old new failed later before after (Err fault.Memory) = (new ≡ []) × (later ≡ failed) × (after ≡ one_more before)
+PicksOne old new failed later before after (Err loss.Refused) = DialsNone new failed later before after
+PicksOne old new failed later before after (Err loss.Unreachable) = DialsNone new failed later before after
+PicksOne old new failed later before after (Err loss.TimedOut) = DialsNone new failed later before after
+PicksOne old new failed later before after (Err loss.Closed) = ⊥
+PicksOne old new failed later before after (Err loss.Unreadable) = ⊥
+PicksOne old new failed later before after (Err loss.Memory) = (new ≡ []) × (later ≡ failed) × (after ≡ one_more before)
 
 -- a reply was read from a connection, which is then free if it may be used again
-pub record BringsFrom (connection : Connection) (old new : List Connection) (result : Result WireReply WireFault) : Type 0 where
+pub record BringsFrom (connection : Connection) (old new : List Connection) (result : Result WireReply Loss) : Type 0 where
   pub left : Connection
   pub read : Result HttpReply HttpFault
   pub reads : Reads connection left read
-  pub told : IsTold read result
+  pub late : Bool
+  pub told : IsTold late read result
   pub free : new ≡ free_after read left old

@@ -9,15 +9,15 @@ ghost use Rattle.relay_http.specs.Framing.{request_limit};
 ghost use Rattle.relay_http.specs.WrittenRequest.{is_host};
 ghost use Rattle.relay_lane.specs.Wires.{IsWireReply};
 ghost use Rattle.relay_wires.specs.Carriers.{AllFree, FindsFree, PicksOne};
-ghost use Rattle.relay_wires.specs.Carriers.{WritesOn, fault_sent};
-ghost use Rattle.relay_wires.specs.Carriers.{Heard, BringsFrom, fault_received};
+ghost use Rattle.relay_wires.specs.Carriers.{WritesOn, loss_by, loss_dialled};
+ghost use Rattle.relay_wires.specs.Carriers.{Heard, BringsFrom};
 ghost use Rattle.relay_wires.specs.Peers.{Serves, Drops};
 
 use crate::peer::Peer;
 use crate::told::tell;
 use relay_action::{ByteIn, ByteOut, ByteStream, Write};
-use relay_http::{Conn, Dial, HttpFault, Peek};
-use relay_lane::{WireFault, WireReply};
+use relay_http::{Conn, Dial, DialFault, HttpFault, Peek};
+use relay_lane::{Loss, WireReply};
 use std::alloc::Global;
 
 // Takes the free connection that was freed last among those on which nothing has arrived since.
@@ -41,7 +41,7 @@ pub(crate) fn pick<S: Peek + Drop, D: Dial<S>>(
     alloc: Global,
     free: &mut Vec<Conn<S>>,
     dial: &mut D,
-) -> Result<Conn<S>, WireFault>
+) -> Result<Conn<S>, Loss>
     requires { AllFree free.old.items }
     ensures picks { PicksOne free.old.items free.new.items (D.failed dial.old) (D.failed dial.new)
         (D.dialled dial.old) (D.dialled dial.new) result }
@@ -51,42 +51,51 @@ pub(crate) fn pick<S: Peek + Drop, D: Dial<S>>(
     if let Some(conn) = take_quiet(free) {
         return Ok(conn);
     }
-    let stream = dial.dial().map_err(|_| WireFault::Send)?;
-    Conn::new(alloc, stream).map_err(|_| WireFault::Memory)
+    let stream = match dial.dial() {
+        Ok(stream) => stream,
+        Err(fault) => return Err(loss_dialled(fault)),
+    };
+    Conn::new(alloc, stream).map_err(|_| Loss::Memory)
 }
 
-pub(crate) fn carry<S: ByteOut + Drop>(
+// What a dial that failed means to the lane.
+fn loss_dialled(fault: DialFault) -> Loss
+    ensures { result ≡ loss_dialled fault }
+{
+    match fault {
+        DialFault::Refused => Loss::Refused,
+        DialFault::TimedOut => Loss::TimedOut,
+        DialFault::Unreachable => Loss::Unreachable,
+    }
+}
+
+pub(crate) fn carry<S: ByteOut + Peek + Drop>(
     alloc: Global,
     conn: &mut Conn<S>,
     host: &str,
     writes: &[Write],
-) -> Result<(), WireFault>
+) -> Result<(), Loss>
     requires lasts { IsTrue (is_open conn.old.phase) }
     requires host { IsTrue (is_host host.now) }
     requires few { length writes.now ≤ 10000 }
     requires size { length (text_of writes.now) ≤ request_limit }
     ensures { WritesOn host.now writes.now conn.old conn.new result }
 {
-    conn.write_request(alloc, host, writes).map_err(fault_sent)
-}
-
-// What a fault of a connection while sending means to the lane.
-fn fault_sent(fault: HttpFault) -> WireFault
-    ensures { result ≡ fault_sent fault }
-{
-    match fault {
-        HttpFault::Memory => WireFault::Memory,
-        _ => WireFault::Send,
+    match conn.write_request(alloc, host, writes) {
+        Ok(()) => Ok(()),
+        Err(fault) => Err(loss_by(conn.has_timed_out(), fault)),
     }
 }
 
-// What a fault of a connection while reading means to the lane.
-fn fault_received(fault: HttpFault) -> WireFault
-    ensures { result ≡ fault_received fault }
+// What a fault of a connection means to the lane. `late`: its stream had no time left.
+fn loss_by(late: bool, fault: HttpFault) -> Loss
+    ensures { result ≡ loss_by late fault }
 {
     match fault {
-        HttpFault::Memory => WireFault::Memory,
-        _ => WireFault::Lost,
+        HttpFault::Read | HttpFault::Write if late => Loss::TimedOut,
+        HttpFault::Read | HttpFault::Write | HttpFault::Ended | HttpFault::Broken => Loss::Closed,
+        HttpFault::Memory => Loss::Memory,
+        _ => Loss::Unreadable,
     }
 }
 
@@ -108,10 +117,10 @@ pub(crate) fn hear<S: ByteStream + Drop, P: Peer<S>>(
     peer: &mut P,
     number: u64,
     conn: Conn<S>,
-) -> Result<Conn<S>, WireFault>
+) -> Result<Conn<S>, Loss>
     ensures describes { P.describes peer.new ≡ P.describes peer.old }
     ensures heard { IfOk result (Heard (P.describes peer.old) conn) }
-    ensures memory { IfErr result (λ f. f ≡ WireFault.Memory) }
+    ensures memory { IfErr result (λ f. f ≡ Loss.Memory) }
     ensures described { OnErr result (P.describes peer.old ≡ true) }
     ensures took { IsTrue (P.describes peer.old) → IfOk result (λ c. HasNone c.written) }
     ensures does { MatchResult result
@@ -124,17 +133,17 @@ pub(crate) fn hear<S: ByteStream + Drop, P: Peer<S>>(
     let (stream, rest) = conn.apart();
     match peer.hear(number, stream) {
         Ok(stream) => Ok(rest.over(stream)),
-        Err(_) => Err(WireFault::Memory),
+        Err(_) => Err(Loss::Memory),
     }
 }
 
 // Reads a reply from a connection. The connection is then free if it may carry a further message
 // and no byte beyond the reply was read.
-pub(crate) fn bring<S: ByteIn + Drop>(
+pub(crate) fn bring<S: ByteIn + Peek + Drop>(
     alloc: Global,
     mut conn: Conn<S>,
     free: &mut Vec<Conn<S>>,
-) -> Result<WireReply, WireFault>
+) -> Result<WireReply, Loss>
     requires lasts { IsTrue (is_open conn.phase) }
     requires room { vec_len free.old < vec_capacity free.old }
     requires all_free { AllFree free.old.items }
@@ -144,7 +153,10 @@ pub(crate) fn bring<S: ByteIn + Drop>(
     ensures capacity { vec_capacity free.new ≡ vec_capacity free.old }
     ensures grows { vec_len free.new ≤ vec_len free.old + 1 }
 {
-    let reply = conn.read_reply(alloc).map_err(fault_received)?;
+    let reply = match conn.read_reply(alloc) {
+        Ok(reply) => reply,
+        Err(fault) => return Err(loss_by(conn.has_timed_out(), fault)),
+    };
     release(conn, reply.keep, free);
     tell(alloc, &reply)
 }

@@ -10,7 +10,7 @@ use crate::numbered::{place_of, take};
 use crate::peer::Peer;
 use relay_action::{ByteIn, ByteOut, ByteStream, Write};
 use relay_http::{Conn, Dial, Peek};
-use relay_lane::{Wire, WireFault, WireReply};
+use relay_lane::{Loss, Wire, WireReply};
 use std::alloc::{AllocError, Global};
 use std::collections::VecDeque;
 use std::marker::Model;
@@ -123,11 +123,11 @@ impl<S: ByteIn + ByteOut + Peek + Drop, D: Dial<S> + Drop, P: Peer<S> + Drop> Wi
     ghost fits = { λ w o. Fits P.fits w o };
 
     /// Writes a request on a free connection on which nothing has arrived since it was freed, or on
-    /// one that is dialled. `Send`: the maximum number of requests is outstanding, the dial failed,
-    /// or the connection did. `Memory`: an allocation failed, for the request, of which part may
-    /// have been sent, or for the window of a fresh connection. After a fault the connection is
-    /// dropped.
-    fn send(&mut self, number: u64, writes: &[Write]) -> Result<(), WireFault>
+    /// one that is dialled. `Refused`, `TimedOut`, `Unreachable`: the dial failed, or the maximum
+    /// number of requests is outstanding, which is `Unreachable`. `Closed`, `TimedOut`: a write
+    /// failed. `Memory`: an allocation failed, for the request, of which part may have been sent,
+    /// or for the window of a fresh connection. After a fault the connection is dropped.
+    fn send(&mut self, number: u64, writes: &[Write]) -> Result<(), Loss>
         requires fresh { Mem number (numbers self.old.out) → ⊥ }
         requires few { length writes.now ≤ 10000 }
         requires dealt { AreDealt writes.now }
@@ -139,15 +139,15 @@ impl<S: ByteIn + ByteOut + Peek + Drop, D: Dial<S> + Drop, P: Peer<S> + Drop> Wi
         ensures outside { MatchResult result
             (λ _. ShowsNext (P.describes self.old.peer) (Fits P.fits) self.old self.new number
             (SendsOn writes.now))
-            (λ _. ShowsNext (P.describes self.old.peer) (Fits P.fits) self.old self.new number
-            (ExchangesOn number writes.now Lost)) }
+            (λ why. ShowsNext (P.describes self.old.peer) (Fits P.fits) self.old self.new number
+            (ExchangesOn number writes.now (Lost why))) }
         // What is written is the request with these writes. An error is the one that the fault of
-        // writing it maps to; if no connection was picked, it is Send, or Memory if the window of
+        // writing it maps to; if no connection was picked, it is that of the dial, or Memory if the window of
         // a fresh one could not be allocated.
         ensures sends { Sends number writes.now self.old self.new result }
     {
         if self.out.len() >= self.most as usize {
-            return Err(WireFault::Send);
+            return Err(Loss::Unreachable);
         }
         let mut conn = pick(self.alloc, &mut self.free, &mut self.dial)?;
         carry(self.alloc, &mut conn, &self.host, writes)?;
@@ -157,9 +157,10 @@ impl<S: ByteIn + ByteOut + Peek + Drop, D: Dial<S> + Drop, P: Peer<S> + Drop> Wi
 
     /// Reads the reply to a request from its connection, after the far end had the request. Status
     /// 200 returns the entries, or `Unreadable` if the body is not a reply; any other status is the
-    /// answer to the request as a whole. `Memory`: an allocation for the reply failed. `Lost`: any
-    /// other fault of the connection.
-    fn receive(&mut self, number: u64) -> Result<WireReply, WireFault>
+    /// answer to the request as a whole, with the reason that its body gives. `Unreadable`: what
+    /// came is no reply. `Closed`, `TimedOut`: the stream ended, or a read failed. `Memory`: an
+    /// allocation for the reply failed.
+    fn receive(&mut self, number: u64) -> Result<WireReply, Loss>
         requires { Mem number (numbers self.old.out) }
         ensures out { numbers self.new.out ≡ without number (numbers self.old.out) }
         ensures describes { P.describes self.new.peer ≡ P.describes self.old.peer }

@@ -16,4 +16,4 @@ pub mod told;
 pub use http_wire::HttpWire;
 pub use peer::{Peer, Unknown};
 pub use relay_http::{Dial, DialFault, Peek};
-pub use relay_lane::{Wire, WireFault, WireReply};
+pub use relay_lane::{Loss, Wire, WireReply};

@@ -5,7 +5,7 @@ ghost use Rattle.relay_wires.specs.Numbers.{numbers};
 
 use crate::streams::{BUSY, Wired, wired};
 use relay_fixtures::asking::{Told, asks};
-use relay_lane::{Wire, WireFault};
+use relay_lane::{Loss, Wire};
 use std::alloc::Global;
 
 // Two replies after which the connection may be used again, and one after which it may not.
@@ -26,9 +26,11 @@ fn twice(alloc: Global, inputs: &[&[u8]], room: usize, fail_at: usize) -> (Told,
     }
 }
 
-const NOT_SENT: Told = Told::Fault(WireFault::Send);
+const NOT_SENT: Told = Told::Fault(Loss::Unreachable);
 
-const LOST: Told = Told::Fault(WireFault::Lost);
+const REFUSED: Told = Told::Fault(Loss::Refused);
+
+const LOST: Told = Told::Fault(Loss::Closed);
 
 const DIALS: &[(&[&[u8]], usize, usize, (Told, Told))] = &[
     // A stream in memory has all its bytes from the start, and its end after them, so it is not
@@ -41,7 +43,7 @@ const DIALS: &[(&[&[u8]], usize, usize, (Told, Told))] = &[
         (Told::Whole(503), Told::Whole(503)),
     ),
     (&[BUSY, b""], 1000, 0, (Told::Whole(503), LOST)),
-    (&[BUSY, BUSY], 1000, 2, (Told::Whole(503), NOT_SENT)),
+    (&[BUSY, BUSY], 1000, 2, (Told::Whole(503), REFUSED)),
     // Nor is one that is closed.
     (&[CLOSED], 1000, 0, (Told::Whole(503), NOT_SENT)),
     (
@@ -52,12 +54,12 @@ const DIALS: &[(&[&[u8]], usize, usize, (Told, Told))] = &[
     ),
     // After a lost reply it is not used again.
     (&[b"", BUSY], 1000, 0, (LOST, Told::Whole(503))),
-    // The first dial fails, and the second.
-    (&[BUSY], 1000, 1, (NOT_SENT, Told::Whole(503))),
-    (&[CLOSED, BUSY], 1000, 2, (Told::Whole(503), NOT_SENT)),
+    // The first dial is refused, and the second.
+    (&[BUSY], 1000, 1, (REFUSED, Told::Whole(503))),
+    (&[CLOSED, BUSY], 1000, 2, (Told::Whole(503), REFUSED)),
     // The request has 180 bytes; a stream that takes fewer fails.
     (&[BUSY, BUSY], 180, 0, (Told::Whole(503), Told::Whole(503))),
-    (&[KEPT_TWICE, BUSY], 179, 0, (NOT_SENT, NOT_SENT)),
+    (&[KEPT_TWICE, BUSY], 179, 0, (LOST, LOST)),
 ];
 
 #[test]

@@ -59,7 +59,7 @@ const GIVEN_UP: End = (
 // How often the first reported operation was sent, if it was given up.
 fn sends(desk: &Desk) -> Option<u32> {
     match desk.lane.reports().first()?.cause {
-        Cause::GaveUp { sends } => Some(sends),
+        Cause::GaveUp { sends, .. } => Some(sends),
         _ => None,
     }
 }

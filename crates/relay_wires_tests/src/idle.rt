@@ -4,7 +4,7 @@ ghost use Rattle.std.specs.Prelude.{◌≡◌, []};
 use crate::streams::BUSY;
 use crate::turns::{Turns, turned};
 use relay_fixtures::asking::{Told, asks};
-use relay_lane::{Wire, WireFault};
+use relay_lane::{Loss, Wire};
 use std::alloc::Global;
 
 // 40 bytes, as `BUSY`: a reply read in pieces of 8 or 20 bytes ends with a read.
@@ -31,7 +31,7 @@ fn twice(alloc: Global, streams: &[Turns<'_>], piece: usize) -> (Told, Told) {
 
 const BUSY_THEN_GATE: (Told, Told) = (Told::Whole(503), Told::Whole(502));
 
-const NOT_SENT: Told = Told::Fault(WireFault::Send);
+const NOT_SENT: Told = Told::Fault(Loss::TimedOut);
 
 const STREAMS: &[(&[Turns<'static>], (Told, Told))] = &[
     // Nothing arrived: the connection is used again, and a second dial would fail.

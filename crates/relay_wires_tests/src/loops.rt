@@ -4,7 +4,7 @@ ghost use Rattle.std.specs.Prelude.{◌≡◌, [], IfSome};
 use relay_fixtures::asking::{Told, asks};
 use relay_fixtures::keys::key_of;
 use relay_index::{Index, Script};
-use relay_lane::WireFault;
+use relay_lane::Loss;
 use relay_loop::{LoopEnd, LoopWire, wire_to};
 use std::alloc::Global;
 
@@ -45,7 +45,7 @@ fn three_times(alloc: Global) -> Option<([Told; 3], usize)> {
 fn refused_lost_and_conflict(rt: HostRuntime) {
     let told = [
         Told::Entries(1, 429),
-        Told::Fault(WireFault::Lost),
+        Told::Fault(Loss::Closed),
         Told::Entries(1, 409),
     ];
     assert!(rt; three_times(rt.alloc()) == Some((told, 1)));

@@ -5,12 +5,12 @@ ghost use Rattle.relay_wires.specs.Numbers.{numbers};
 
 use crate::streams::{BUSY, Wired, wired};
 use relay_index::{Index, Script};
-use relay_lane::{Wire, WireFault};
+use relay_lane::{Loss, Wire};
 use relay_loop::{LoopEnd, wire_to};
 use std::alloc::Global;
 
 // Sends a request without writes.
-fn sends(wire: &mut Wired, number: u64) -> Result<(), WireFault>
+fn sends(wire: &mut Wired, number: u64) -> Result<(), Loss>
     requires { Mem number (numbers wire.old.out) → ⊥ }
     ensures { MatchResult result
         (λ _. numbers wire.new.out ≡ number ∷ numbers wire.old.out)
@@ -20,7 +20,7 @@ fn sends(wire: &mut Wired, number: u64) -> Result<(), WireFault>
 }
 
 // The results of two requests that are sent before a reply is received, with this maximum.
-fn two_out(alloc: Global, most: u32) -> Option<[Result<(), WireFault>; 2]> {
+fn two_out(alloc: Global, most: u32) -> Option<[Result<(), Loss>; 2]> {
     let inputs = [BUSY, BUSY];
     let mut wire = wired(alloc, &inputs, 1000, 0, most)?;
     if let Err(fault) = sends(&mut wire, 1) {
@@ -72,8 +72,8 @@ fn the_later_one_first(rt: HostRuntime) {
 #[test]
 fn as_many_as_may_be(rt: HostRuntime) {
     let rows = [
-        (0, [Err(WireFault::Send), Err(WireFault::Send)]),
-        (1, [Ok(()), Err(WireFault::Send)]),
+        (0, [Err(Loss::Unreachable), Err(Loss::Unreachable)]),
+        (1, [Ok(()), Err(Loss::Unreachable)]),
         (2, [Ok(()), Ok(())]),
     ];
     for (most, wanted) in rows {

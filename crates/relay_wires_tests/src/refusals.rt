@@ -12,7 +12,7 @@ use relay_fixtures::keys::key_of;
 use relay_fixtures::notes::NO_PAUSES;
 use relay_http::HttpReply;
 use relay_index::{Index, Script};
-use relay_lane::{Wire, WireFault, drain};
+use relay_lane::{Loss, Wire, drain};
 use relay_loop::{LoopEnd, LoopWire, wire_to};
 use relay_wires::told::tell;
 use std::alloc::{AllocError, Global};
@@ -46,7 +46,7 @@ fn is_told<W: Wire>(alloc: Global, wire: &mut W) -> bool
 {
     match asks(alloc, wire, 1, ID, 2) {
         Told::Entries(entries, _) => entries == 1,
-        Told::NotAsked | Told::Fault(WireFault::Memory | WireFault::Send | WireFault::Lost) => {
+        Told::NotAsked | Told::Fault(Loss::Memory | Loss::Unreachable | Loss::Closed) => {
             matches!(asks(alloc, wire, 2, ID, 2), Told::Entries(1, _))
         }
         _ => false,
@@ -103,7 +103,7 @@ fn tells_one_entry(alloc: Global) -> Option<bool> {
     };
     let wanted = Told::Entries(1, 404);
     match told_by(tell(alloc, &reply)) {
-        Told::Fault(WireFault::Memory) => Some(told_by(tell(alloc, &reply)) == wanted),
+        Told::Fault(Loss::Memory) => Some(told_by(tell(alloc, &reply)) == wanted),
         told => Some(told == wanted),
     }
 }

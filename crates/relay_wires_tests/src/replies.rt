@@ -1,8 +1,11 @@
 //! What replies mean to a lane, by their statuses and their bodies.
 
 use crate::streams::wired;
+use relay_action::Text;
 use relay_fixtures::asking::{Told, asks};
-use relay_lane::WireFault;
+use relay_http::HttpReply;
+use relay_lane::{Loss, WireReply};
+use relay_wires::told::tell;
 use std::alloc::Global;
 
 // The result of a delete if these bytes are the reply.
@@ -29,15 +32,15 @@ const REPLIES: &[(&[u8], Told)] = &[
     ),
     (
         b"HTTP/1.1 200 OK\r\nContent-Length: 0\r\n\r\n",
-        Told::Fault(WireFault::Unreadable),
+        Told::Fault(Loss::Unreadable),
     ),
     (
         b"HTTP/1.1 200 OK\r\nContent-Length: 11\r\n\r\n{\"items\":3}",
-        Told::Fault(WireFault::Unreadable),
+        Told::Fault(Loss::Unreadable),
     ),
     (
         b"HTTP/1.1 200 OK\r\nContent-Length: 44\r\n\r\n{\"items\":[{\"index\":{\"_id\":5,\"status\":201}}]}",
-        Told::Fault(WireFault::Unreadable),
+        Told::Fault(Loss::Unreadable),
     ),
     (
         b"HTTP/1.1 201 Created\r\nContent-Length: 12\r\n\r\n{\"items\":[]}",
@@ -56,33 +59,76 @@ const REPLIES: &[(&[u8], Told)] = &[
         b"HTTP/1.1 503 Service Unavailable\r\n\r\n",
         Told::Whole(503),
     ),
-    (b"", Told::Fault(WireFault::Lost)),
+    (b"", Told::Fault(Loss::Closed)),
     (
         b"HTTP/1.1 200 OK\r\nContent-Length: 12\r\n\r\n{\"items\":[]",
-        Told::Fault(WireFault::Lost),
+        Told::Fault(Loss::Closed),
     ),
     (
         b"HTTP/1.1 101 Switching Protocols\r\n\r\n",
-        Told::Fault(WireFault::Lost),
+        Told::Fault(Loss::Unreadable),
     ),
     (
         b"HTTP/1.1 200 OK\r\nContent-Length: 67108865\r\n\r\n",
-        Told::Fault(WireFault::Lost),
+        Told::Fault(Loss::Unreadable),
     ),
     (
         b"HTTP/1.1 200 OK\r\nContent-Encoding: gzip\r\nContent-Length: 0\r\n\r\n",
-        Told::Fault(WireFault::Lost),
+        Told::Fault(Loss::Unreadable),
     ),
     (
         b"HTTP/1.1 200 OK\r\nTransfer-Encoding: chunked\r\nContent-Length: 0\r\n\r\n",
-        Told::Fault(WireFault::Lost),
+        Told::Fault(Loss::Unreadable),
     ),
-    (b"HTTP/1.1 600 None\r\n\r\n", Told::Fault(WireFault::Lost)),
+    (b"HTTP/1.1 600 None\r\n\r\n", Told::Fault(Loss::Unreadable)),
 ];
 
 #[test]
 fn replies(rt: HostRuntime) {
     for (bytes, wanted) in REPLIES {
         assert!(rt; told_by(rt.alloc(), *bytes) == *wanted, "{wanted:?}");
+    }
+}
+
+// The reason with which the status of a whole request is told. `None`: none, or allocation failed.
+fn reason_of(alloc: Global, status: u16, body: &[u8]) -> Option<Text> {
+    let reply = HttpReply {
+        status,
+        body: body.to_vec(alloc).ok()?,
+        keep: true,
+    };
+    match tell(alloc, &reply) {
+        Ok(WireReply::Whole(told, reason)) if told == status => reason,
+        _ => None,
+    }
+}
+
+// A status, the body of its reply, and the reason; the empty text stands for none.
+const REASONS: &[(u16, &[u8], &str)] = &[
+    (
+        403,
+        b"{\"error\":{\"reason\":\"denied\"},\"status\":403}",
+        "denied",
+    ),
+    (
+        405,
+        b"{\"error\":\"Incorrect HTTP method\"}",
+        "Incorrect HTTP method",
+    ),
+    (503, b"{\"error\":{\"reason\":\"no node\"}}", "no node"),
+    (403, b"{\"error\":{\"type\":\"t\"}}", ""),
+    (502, b"<html>Bad Gateway</html>", ""),
+    (401, b"", ""),
+];
+
+#[test]
+fn reasons(rt: HostRuntime) {
+    for (status, body, wanted) in REASONS {
+        let reason = reason_of(rt.alloc(), *status, *body);
+        let text = match &reason {
+            Some(reason) => reason.as_str(),
+            None => "",
+        };
+        assert!(rt; text == *wanted, "{wanted}");
     }
 }

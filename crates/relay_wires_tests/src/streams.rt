@@ -53,13 +53,15 @@ impl Dial<MemStream> for Streams<'_> {
     fn dial(&mut self) -> Result<MemStream, DialFault> {
         self.calls = self.calls.saturating_add(1);
         self.dialled = self.dialled.saturating_add(1);
+        let mut fault = DialFault::Refused;
         if self.calls != self.fail_at {
             if let Some(stream) = self.stream() {
                 return Ok(stream);
             }
+            fault = DialFault::Unreachable;
         }
         self.failed = self.failed.saturating_add(1);
-        Err(DialFault)
+        Err(fault)
     }
 }
 

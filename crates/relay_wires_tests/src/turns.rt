@@ -87,7 +87,7 @@ impl<'a> Dial<TurnStream<'a>> for TurnDial<'a> {
             });
         }
         self.failed = self.failed.saturating_add(1);
-        Err(DialFault)
+        Err(DialFault::TimedOut)
     }
 }
 

@@ -96,12 +96,12 @@ returns-in_err-conn-clause-outside g c =
     } in
     let new : Carrier g.row.P.Denot = record old { out = c.take.new.out.items; peer = c.hear.new.peer } in
     let among : Mem c.args.number (numbers c.self.inside.out.items) = subst (λ (w : Carrier g.row.P.Denot). Mem c.args.number (numbers w.out)) (sym c.self.view_is) c.requires in
-    let shows : Shows (g.P.Peer.describes c.args.self.now.peer) (Fits g.P.Peer.fits) c.args.self.now new (AnswersOn c.args.number Lost) =
-    subst (λ (w : Carrier g.row.P.Denot). Shows (g.P.Peer.describes w.peer) (Fits g.P.Peer.fits) w new (AnswersOn c.args.number Lost)) c.self.view_is
+    let shows : Shows (g.P.Peer.describes c.args.self.now.peer) (Fits g.P.Peer.fits) c.args.self.now new (AnswersOn c.args.number (Lost c.in_err-conn.field-0.0)) =
+    subst (λ (w : Carrier g.row.P.Denot). Shows (g.P.Peer.describes w.peer) (Fits g.P.Peer.fits) w new (AnswersOn c.args.number (Lost c.in_err-conn.field-0.0))) c.self.view_is
     (λ d o x.
-    answered_fits g.P.Peer.fits g.met.P.Peer.keeps_sent g.met.P.Peer.keeps_answered old new o c.args.number c.in-Some.conn Lost _ among c.self.invariant.host refl c.take.ensures.besides x.free
+    answered_fits g.P.Peer.fits g.met.P.Peer.keeps_sent g.met.P.Peer.keeps_answered old new o c.args.number c.in-Some.conn (Lost c.in_err-conn.field-0.0) _ among c.self.invariant.host refl c.take.ensures.besides x.free
     (sym c.take.ensures.found ∙ c.in-Some.is) (c.in_err-conn.ensures.outside d) (λ ws q h. tt) x) in
-    rw p.1 shows
+    rw (p.1, p.2) shows
 
 pub returns-clause-out : goal.returns-clause-out
 returns-clause-out g c = rw (c.take.ensures.besides, ← c.self.view_is) (numbers-besides c.args.number c.self.inside.out.items)
@@ -128,6 +128,7 @@ returns-clause-brings g c =
       left = b.left;
       read = b.read;
       reads = b.reads;
+      late = b.late;
       told = b.told;
       after = rw (c.take.ensures.besides, b.free) refl;
     }) in
@@ -155,4 +156,4 @@ returns-clause-outside g c =
     let free = subst AllUnwritten (sym b.free) (unwritten_freed b.read b.left c.self.inside.free.items unwritten x.free) in
     answered_fits g.P.Peer.fits g.met.P.Peer.keeps_sent g.met.P.Peer.keeps_answered old new o c.args.number c.in-Some.conn (answer_of c.bring.result) _ among c.self.invariant.host refl c.take.ensures.besides free
     there (c.in_ok-conn.ensures.outside d)
-    (λ ws q h. told_honest c.args.number ws q c.in_ok-conn.conn b.left b.read c.bring.result b.reads b.told clear c.bring.ensures.reply h) x)
+    (λ ws q h. told_honest c.args.number ws q c.in_ok-conn.conn b.left b.late b.read c.bring.result b.reads b.told clear c.bring.ensures.reply h) x)

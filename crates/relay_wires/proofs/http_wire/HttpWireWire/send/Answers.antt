@@ -5,6 +5,7 @@ use Rattle.relay_lane.specs.Wires.{SendsOn, ExchangesOn, ShowsNext}
 use Rattle.relay_wires.specs.Peers.{MayGo}
 use Rattle.relay_wires.specs.Carriers.{Carrier, Sends, WritesOn}
 use Rattle.relay_wires.specs.Telling.{Fits}
+use Rattle.relay_results.specs.declared.cause.Loss.TheVariants as loss
 use Rattle.relay_wires.proofs.Telling.{picked_none, unwritten_picked, written_on, sent_fits, unsent_fits}
 use Rattle.relay_wires.proofs.Connections.{few_after, few_left, open_after, sends_none, sends_on}
 use Rattle.relay_wires.proofs.http_wire.HttpWireWire.send.Goals as goal
@@ -91,7 +92,7 @@ pub returns-then-len-self-clause-outside : goal.returns-then-len-self-clause-out
 returns-then-len-self-clause-outside g c =
     let w = c.args.self.now in
     λ d o x next.
-    unsent_fits g.P.Peer.fits g.met.P.Peer.keeps_sent g.met.P.Peer.keeps_answered w w o c.args.number c.args.writes.now next refl refl refl x.free x
+    unsent_fits g.P.Peer.fits g.met.P.Peer.keeps_sent g.met.P.Peer.keeps_answered loss.Unreachable w w o c.args.number c.args.writes.now next refl refl refl x.free x
 
 pub returns-in_err-conn-clause-outside : goal.returns-in_err-conn-clause-outside
 returns-in_err-conn-clause-outside g c =
@@ -112,10 +113,10 @@ returns-in_err-conn-clause-outside g c =
     } in
     let free = picked_none c.in_err-conn.field-0.0 c.self.inside.free.items c.pick.new.free.items (g.D.Dial.failed c.self.inside.dial) (g.D.Dial.failed c.pick.new.dial)
     (g.D.Dial.dialled c.self.inside.dial) (g.D.Dial.dialled c.pick.new.dial) c.in_err-conn.ensures.picks in
-    let shows : ShowsNext (g.P.Peer.describes c.args.self.now.peer) (Fits g.P.Peer.fits) c.args.self.now now c.args.number (ExchangesOn c.args.number c.args.writes.now Lost) =
-    subst (λ (w : Carrier g.row.P.Denot). ShowsNext (g.P.Peer.describes w.peer) (Fits g.P.Peer.fits) w now c.args.number (ExchangesOn c.args.number c.args.writes.now Lost)) c.self.view_is
-    (λ d o x next. unsent_fits g.P.Peer.fits g.met.P.Peer.keeps_sent g.met.P.Peer.keeps_answered old now o c.args.number c.args.writes.now next refl refl refl free x) in
-    rw p.1 shows
+    let shows : ShowsNext (g.P.Peer.describes c.args.self.now.peer) (Fits g.P.Peer.fits) c.args.self.now now c.args.number (ExchangesOn c.args.number c.args.writes.now (Lost c.in_err-conn.field-0.0)) =
+    subst (λ (w : Carrier g.row.P.Denot). ShowsNext (g.P.Peer.describes w.peer) (Fits g.P.Peer.fits) w now c.args.number (ExchangesOn c.args.number c.args.writes.now (Lost c.in_err-conn.field-0.0))) c.self.view_is
+    (λ d o x next. unsent_fits g.P.Peer.fits g.met.P.Peer.keeps_sent g.met.P.Peer.keeps_answered c.in_err-conn.field-0.0 old now o c.args.number c.args.writes.now next refl refl refl free x) in
+    rw (p.1, p.2) shows
 
 pub returns-in_err-carry-clause-outside : goal.returns-in_err-carry-clause-outside
 returns-in_err-carry-clause-outside g c =
@@ -134,12 +135,12 @@ returns-in_err-carry-clause-outside g c =
       failed = g.D.Dial.failed c.pick.new.dial;
       dialled = g.D.Dial.dialled c.pick.new.dial;
     } in
-    let shows : ShowsNext (g.P.Peer.describes c.args.self.now.peer) (Fits g.P.Peer.fits) c.args.self.now now c.args.number (ExchangesOn c.args.number c.args.writes.now Lost) =
-    subst (λ (w : Carrier g.row.P.Denot). ShowsNext (g.P.Peer.describes w.peer) (Fits g.P.Peer.fits) w now c.args.number (ExchangesOn c.args.number c.args.writes.now Lost)) c.self.view_is
+    let shows : ShowsNext (g.P.Peer.describes c.args.self.now.peer) (Fits g.P.Peer.fits) c.args.self.now now c.args.number (ExchangesOn c.args.number c.args.writes.now (Lost c.in_err-carry.field-0.0)) =
+    subst (λ (w : Carrier g.row.P.Denot). ShowsNext (g.P.Peer.describes w.peer) (Fits g.P.Peer.fits) w now c.args.number (ExchangesOn c.args.number c.args.writes.now (Lost c.in_err-carry.field-0.0))) c.self.view_is
     (λ d o x next.
     let free = unwritten_picked _ _ c.self.inside.free.items c.pick.new.free.items c.in_ok-conn.conn c.in_ok-conn.ensures.picks.0 x.free in
-    unsent_fits g.P.Peer.fits g.met.P.Peer.keeps_sent g.met.P.Peer.keeps_answered old now o c.args.number c.args.writes.now next refl refl refl free.0 x) in
-    rw p.1 shows
+    unsent_fits g.P.Peer.fits g.met.P.Peer.keeps_sent g.met.P.Peer.keeps_answered c.in_err-carry.field-0.0 old now o c.args.number c.args.writes.now next refl refl refl free.0 x) in
+    rw (p.1, p.2) shows
 
 pub returns-clause-outside : goal.returns-clause-outside
 returns-clause-outside g c =
