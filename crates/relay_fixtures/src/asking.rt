@@ -4,7 +4,7 @@ ghost use Rattle.relay_ndjson.specs.Bodies.{AreDealt};
 ghost use Rattle.relay_ndjson.specs.Bulk.{text_of};
 
 use relay_action::{Action, DocKey, Write};
-use relay_lane::{Wire, WireFault, WireReply};
+use relay_lane::{Loss, Wire, WireReply};
 use relay_ndjson::bulk_len;
 use std::alloc::Global;
 
@@ -14,18 +14,18 @@ use std::alloc::Global;
 pub enum Told {
     Entries(usize, u16),
     Whole(u16),
-    Fault(WireFault),
+    Fault(Loss),
     NotAsked,
 }
 
 /// What an answer is.
-pub fn told_by(answer: Result<WireReply, WireFault>) -> Told {
+pub fn told_by(answer: Result<WireReply, Loss>) -> Told {
     match answer {
         Ok(WireReply::Items(outcomes)) => {
             let status = outcomes.first().map_or(0, |outcome| outcome.status);
             Told::Entries(outcomes.len(), status)
         }
-        Ok(WireReply::Whole(status)) => Told::Whole(status),
+        Ok(WireReply::Whole(status, _)) => Told::Whole(status),
         Err(fault) => Told::Fault(fault),
     }
 }

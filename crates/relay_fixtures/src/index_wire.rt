@@ -7,7 +7,7 @@ use rand_core::Rng;
 use rand_pcg::Pcg32;
 use relay_action::{ActionKind, Text, Write};
 use relay_index::Index;
-use relay_lane::{Wire, WireFault, WireReply};
+use relay_lane::{Loss, Wire, WireReply};
 use relay_results::Outcome;
 use std::alloc::{AllocError, Global};
 use std::mem;
@@ -20,9 +20,9 @@ pub enum Way {
     /// Each is run, and every n-th reply is lost.
     LosesEach(u64),
     /// The one with this number is not sent; the others are run and answered.
-    FailsSend(u64, WireFault),
+    FailsSend(u64, Loss),
     /// Each is run, and the reply to the one with this number is a fault.
-    FailsReply(u64, WireFault),
+    FailsReply(u64, Loss),
     /// Each is run, and answered with one entry fewer than it has writes.
     TooFew,
     /// Each is run, and answered with one entry more.
@@ -74,12 +74,12 @@ pub fn wire_of(alloc: Global, way: Way) -> IndexWire
 fn way_at(way: Way, sends: u64, random: u32) -> Way {
     match way {
         Way::LosesEach(every) if every > 0 && sends % every == 0 => {
-            Way::FailsReply(sends, WireFault::Lost)
+            Way::FailsReply(sends, Loss::Closed)
         }
         Way::FailsSend(at, _) | Way::FailsReply(at, _) if at != sends => Way::Runs,
         Way::Random => match random % 16 {
-            0 => Way::FailsSend(sends, WireFault::Send),
-            1 | 2 => Way::FailsReply(sends, WireFault::Lost),
+            0 => Way::FailsSend(sends, Loss::Unreachable),
+            1 | 2 => Way::FailsReply(sends, Loss::Closed),
             3 => Way::Whole(503),
             4 => Way::TooFew,
             _ => Way::Runs,
@@ -130,13 +130,13 @@ fn changed(
     Ok(entries)
 }
 
-fn answered(alloc: Global, way: Way, entries: Vec<Outcome>) -> Result<WireReply, WireFault>
+fn answered(alloc: Global, way: Way, entries: Vec<Outcome>) -> Result<WireReply, Loss>
     ensures { IsWireReply result }
 {
     let (drops, adds) = match way {
-        Way::Loses => return Err(WireFault::Lost),
+        Way::Loses => return Err(Loss::Closed),
         Way::FailsReply(_, fault) => return Err(fault),
-        Way::Whole(status) if status != 200 => return Ok(WireReply::Whole(status)),
+        Way::Whole(status) if status != 200 => return Ok(WireReply::Whole(status, None)),
         Way::TooFew => (true, false),
         Way::TooMany => (false, true),
         Way::Another => (true, true),
@@ -144,7 +144,7 @@ fn answered(alloc: Global, way: Way, entries: Vec<Outcome>) -> Result<WireReply,
     };
     match changed(alloc, entries, drops, adds) {
         Ok(entries) => Ok(WireReply::Items(entries)),
-        Err(_) => Err(WireFault::Memory),
+        Err(_) => Err(Loss::Memory),
     }
 }
 
@@ -158,9 +158,9 @@ impl Wire for IndexWire {
 
     ghost fits = { λ w o. ⊥ };
 
-    fn send(&mut self, number: u64, writes: &[Write]) -> Result<(), WireFault> {
+    fn send(&mut self, number: u64, writes: &[Write]) -> Result<(), Loss> {
         if self.flying.is_some() {
-            return Err(WireFault::Send);
+            return Err(Loss::Unreachable);
         }
         self.sends = self.sends.saturating_add(1);
         self.now = way_at(self.way, self.sends, self.rng.next_u32());
@@ -169,18 +169,18 @@ impl Wire for IndexWire {
             Way::Whole(_) | Way::Loses => {}
             Way::Answers(status) => match answers(self.alloc, status) {
                 Ok(entries) => self.reply = entries,
-                Err(_) => return Err(WireFault::Memory),
+                Err(_) => return Err(Loss::Memory),
             },
             _ => match run_all(self.alloc, &mut self.index, writes) {
                 Ok(entries) => self.reply = entries,
-                Err(_) => return Err(WireFault::Memory),
+                Err(_) => return Err(Loss::Memory),
             },
         }
         self.flying = Some(number);
         Ok(())
     }
 
-    fn receive(&mut self, _number: u64) -> Result<WireReply, WireFault> {
+    fn receive(&mut self, _number: u64) -> Result<WireReply, Loss> {
         self.flying = None;
         let entries = mem::replace(&mut self.reply, Vec::new(self.alloc));
         answered(self.alloc, self.now, entries)

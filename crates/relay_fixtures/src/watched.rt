@@ -1,6 +1,6 @@
 //! A wire with something done before each of its calls.
 use relay_action::Write;
-use relay_lane::{Wire, WireFault, WireReply};
+use relay_lane::{Loss, Wire, WireReply};
 
 /// What is done before each call of a wire.
 pub trait Watch {
@@ -25,12 +25,12 @@ impl<W: Wire, V: Watch> Wire for Watched<W, V> {
 
     ghost fits = { λ w o. W.fits w.wire o };
 
-    fn send(&mut self, number: u64, writes: &[Write]) -> Result<(), WireFault> {
+    fn send(&mut self, number: u64, writes: &[Write]) -> Result<(), Loss> {
         self.watch.before_send(number);
         self.wire.send(number, writes)
     }
 
-    fn receive(&mut self, number: u64) -> Result<WireReply, WireFault> {
+    fn receive(&mut self, number: u64) -> Result<WireReply, Loss> {
         self.watch.before_receive(number);
         self.wire.receive(number)
     }

@@ -15,11 +15,11 @@ use Rattle.relay_lane.specs.Laws.{Keeps, TurnsKeep, WorksOn, LeftAtMost, LeftIsT
 
 -- ---- lists of turns
 
-turns_after : (ts us : List Turn) (s : State) → after_turns (ts ++ us) s ≡ after_turns us (after_turns ts s)
+pub turns_after : (ts us : List Turn) (s : State) → after_turns (ts ++ us) s ≡ after_turns us (after_turns ts s)
 turns_after [] us s = refl
 turns_after (t ∷ ts) us s = turns_after ts us (after_turn t s)
 
-turns_may : (going : Turn → State → Bool) (ts us : List Turn) (s : State) → AllMayTurn going ts s → AllMayTurn going us (after_turns ts s) → AllMayTurn going (ts ++ us) s
+pub turns_may : (going : Turn → State → Bool) (ts us : List Turn) (s : State) → AllMayTurn going ts s → AllMayTurn going us (after_turns ts s) → AllMayTurn going (ts ++ us) s
 turns_may going [] us s a b = b
 turns_may going (t ∷ ts) us s a b = (a.0, a.1, turns_may going ts us (after_turn t s) a.2 b)
 
@@ -57,7 +57,7 @@ sent_keeps n s (Some items) e = record { requests = refl; clock = refl; stays = 
 
 pub turn_keeps : (t : Turn) (s : State) → MayTurn t s → Keeps (sends_in t) (ticks_in t) s (after_turn t s)
 turn_keeps (Sends n) s may = sent_keeps n s (next_batch s) may
-turn_keeps (Fails n) s may = let k = sent_keeps n s (next_batch s) may in record { requests = k.requests; clock = k.clock; stays = record { config = k.stays.config; closed = k.stays.closed; taken = k.stays.taken } }
+turn_keeps (Fails why n) s may = let k = sent_keeps n s (next_batch s) may in record { requests = k.requests; clock = k.clock; stays = record { config = k.stays.config; closed = k.stays.closed; taken = k.stays.taken } }
 turn_keeps (Settles n a) s may = record { requests = omega arith; clock = refl; stays = record { config = refl; closed = refl; taken = refl } }
 turn_keeps (Pauses n) s may = record { requests = omega arith; clock = refl; stays = record { config = refl; closed = refl; taken = refl } }
 

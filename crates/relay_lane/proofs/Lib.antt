@@ -7,6 +7,7 @@ pub mod Sending
 pub mod Carrying
 pub mod Flushing
 pub mod Counting
+pub mod Calling
 pub mod Stepping
 pub mod Reaching
 pub mod Once

@@ -1,8 +1,7 @@
 -- Each operation that a lane takes is held, noted as applied or reported, and only one of these.
-use Rattle.std.proofs.Common.{◌≡◌, ℕ, ◌+◌, List, [], ◌∷◌, ◌++◌, Option, Some, None, Bool, true, false, refl, sym, ap, ◌∙◌, subst, arith}
+use Rattle.std.proofs.Common.{◌≡◌, ℕ, ◌+◌, List, [], ◌∷◌, Option, Some, None, Bool, true, false, refl, ap, ◌∙◌, arith}
 use Rattle.std.specs.Prelude.{map, nat_lt, unwrap_or}
 use Rattle.std.proofs.lemmas.List.{map-append}
-use Rattle.relay_action.specs.declared.mail.Body.{Body}
 use Rattle.relay_action.specs.declared.mail.Body.TheVariants as body
 use Rattle.relay_action.specs.declared.operation.Op.{Op}
 use Rattle.relay_action.specs.declared.operation.OpName.{OpName}
@@ -17,7 +16,7 @@ use Rattle.relay_delivery.specs.Lane.{Entry, held_of, entry_if, launched_entry}
 use Rattle.relay_core.specs.Endings.{is_held_as, is_success_as, is_report_as, new_successes, new_reports}
 use Rattle.relay_core.specs.State.{State, after_request, next_batch, next_entries, after_answer_to, oldest, bytes_of}
 use Rattle.relay_core.proofs.Endings.{each_ends_once}
-use Rattle.relay_lane.specs.Turns.{Turn, Sends, Fails, Settles, Pauses, after_send, after_ticks, after_turn, after_turns, Worked}
+use Rattle.relay_lane.specs.Turns.{Turn, Sends, Fails, Settles, Pauses, after_send, after_ticks, after_turn, after_turns}
 use Rattle.relay_lane.specs.Once.{is_op_as, times, FreshHasNone, TakeAddsOne, TurnKeepsTimes, WorkKeepsTimes, ForgettingPassesOn}
 
 pub fresh_has_none : FreshHasNone
@@ -50,7 +49,7 @@ answered_times s number a n =
 
 pub turn_keeps_times : TurnKeepsTimes
 turn_keeps_times (Sends k) s n = asked_times s (next_batch s) n
-turn_keeps_times (Fails k) s n = answered_times (after_ticks k (after_send s)) s.flights.next Lost n ∙ asked_times s (next_batch s) n
+turn_keeps_times (Fails why k) s n = answered_times (after_ticks k (after_send s)) s.flights.next (Lost why) n ∙ asked_times s (next_batch s) n
 turn_keeps_times (Settles k a) s n = answered_times (after_ticks k s) (unwrap_or (oldest s) 0) a n
 turn_keeps_times (Pauses k) s n = refl
 

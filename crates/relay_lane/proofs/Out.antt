@@ -10,6 +10,7 @@ use Rattle.relay_results.specs.Outside.{Answer}
 use Rattle.relay_results.proofs.Lists.{true_or_false, equal, equal_test, Mem-cases, Mem-one}
 use Rattle.relay_delivery.specs.Lane.{Flying, is_other, writes_at, writes_of_all}
 use Rattle.relay_core.specs.State.{State, AreNumbered, IsLane, first_number, oldest, next_batch, next_entries, after_request, after_answer_to, is_flying, writes_of}
+use Rattle.relay_results.specs.declared.cause.Loss.{Loss}
 use Rattle.relay_lane.specs.Wires.{without}
 use Rattle.relay_lane.specs.Out.{numbers_of, out_of}
 use Rattle.relay_lane.specs.Turns.{after_send, after_fail, after_answer}
@@ -129,13 +130,13 @@ module _ (s : State) (l : IsLane s) (items : List BatchItem) (some : next_batch 
       more (f ∷ fs) x = let r = more fs x in omega (arith, r)
 
   -- or could not be sent
-  pub flying_again : (n : ℕ) → (after_fail n s).core.flying ≡ s.core.flying
+  pub flying_again : (why : Loss) (n : ℕ) → (after_fail why n s).core.flying ≡ s.core.flying
   unfolding its_flight
-  flying_again n = ap (filter (is_other (from_zero s.flights.next))) flying_is ∙ ap (λ n. filter (is_other n) (s.core.flying ++ its_flight ∷ [])) zero_is
+  flying_again why n = ap (filter (is_other (from_zero s.flights.next))) flying_is ∙ ap (λ n. filter (is_other n) (s.core.flying ++ its_flight ∷ [])) zero_is
       ∙ last_gone s.core.requests s.core.flying its_flight refl none_like_it
 
-  pub out_failed : (n : ℕ) → out_of (after_fail n s) ≡ out_of s
-  out_failed n = ap numbers_of (flying_again n)
+  pub out_failed : (why : Loss) (n : ℕ) → out_of (after_fail why n s) ≡ out_of s
+  out_failed why n = ap numbers_of (flying_again why n)
 
 -- its number was not outstanding
 pub next_is_new : (s : State) → IsLane s → Mem s.flights.next (out_of s) → ⊥

@@ -14,6 +14,7 @@ use Rattle.relay_delivery.proofs.Reached.{reached_holds, fresh_reached, call_rea
 use Rattle.relay_core.specs.State.{State, config_of, later, bytes_of, gathering, next_entries, next_batch, after_request, is_flying, first_number, oldest, after_answer_to}
 use Rattle.relay_core.proofs.Batched.{next_keeps}
 use Rattle.relay_core.proofs.Tying.{chosen_sub}
+use Rattle.relay_results.specs.declared.cause.Loss.{Loss}
 use Rattle.relay_lane.specs.Turns.{Turn, Settles, Pauses, after_send, after_ticks, after_turn, after_turns, AllMayTurn}
 use Rattle.relay_lane.specs.Turns as turns
 use Rattle.relay_lane.specs.Reach.{IsReached, FreshIsReached, TakeIsReached, TurnIsReached, WorkIsReached, ReachedIsOrderly}
@@ -59,10 +60,10 @@ ticks_reached n s taken r = record {
   next = r.next;
 }
 
-failed_reached : (n : ℕ) (s : State) (b : Option (List BatchItem)) (taken : List Op) → next_batch s ≡ b → is_some b ≡ true → IsReached s taken → IsReached (after_answer_to (after_ticks n (after_request s b)) s.flights.next Lost) taken
-failed_reached n s None taken e some r = absurd (cc)
-failed_reached n s (Some items) taken e some r =
-    answer_reached (after_ticks n (after_request s (Some items))) s.flights.next Lost taken (new_flies s items taken r) (λ n. absurd (cc))
+failed_reached : (why : Loss) (n : ℕ) (s : State) (b : Option (List BatchItem)) (taken : List Op) → next_batch s ≡ b → is_some b ≡ true → IsReached s taken → IsReached (after_answer_to (after_ticks n (after_request s b)) s.flights.next (Lost why)) taken
+failed_reached why n s None taken e some r = absurd (cc)
+failed_reached why n s (Some items) taken e some r =
+    answer_reached (after_ticks n (after_request s (Some items))) s.flights.next (Lost why) taken (new_flies s items taken r) (λ n. absurd (cc))
     (ticks_reached n (after_request s (Some items)) taken (send_reached s items taken e r))
 
 first_flies : (fs : List Flying) → 0 < length fs → list_any (λ (f : Flying). from_one f.request == unwrap_or (first_number fs) 0) fs ≡ true
@@ -71,7 +72,7 @@ first_flies (f ∷ fs) some = ap (λ b. b || list_any (λ (x : Flying). from_one
 
 pub turn_is_reached : TurnIsReached
 turn_is_reached (turns.Sends n) s taken may r = ticks_reached n (after_send s) taken (sent_reached s (next_batch s) taken refl may r)
-turn_is_reached (turns.Fails n) s taken may r = failed_reached n s (next_batch s) taken refl may r
+turn_is_reached (turns.Fails why n) s taken may r = failed_reached why n s (next_batch s) taken refl may r
 turn_is_reached (Settles n a) s taken may r = answer_reached (after_ticks n s) (unwrap_or (oldest s) 0) a taken (first_flies s.core.flying may.0) may.1 (ticks_reached n s taken r)
 turn_is_reached (Pauses n) s taken may r = ticks_reached n s taken r
 

@@ -21,6 +21,7 @@ use Rattle.relay_core.specs.State.{State, IsLane, all_closed, gathering, next_ba
 use Rattle.relay_core.proofs.Flights.{earlier_ones_settled}
 use Rattle.relay_core.proofs.Forming.{items_of_operations}
 use Rattle.relay_lane.proofs.Limits.{among}
+use Rattle.relay_results.specs.declared.cause.Loss.{Loss}
 use Rattle.relay_lane.specs.Turns.{after_send, after_ticks, after_fail, sends_of, sends_among, sends_left}
 
 -- ---- one operation
@@ -145,14 +146,14 @@ module _ (g : Config) (clock n : ℕ) (ws : List Write) (a : Answer) (answers : 
 
   -- if a request is halved, its writes keep the cap of one that flies in it
   abbrev pub Room : Entry → Type 0
-  Room e = a ≡ Whole 413 → (p : Place) → e.held.flies ≡ Some p → p.request ≡ n → 1 < length ws → length ws ≤ e.held.cap
+  Room e = (reason : Option (List ℕ)) → a ≡ Whole 413 reason → (p : Place) → e.held.flies ≡ Some p → p.request ≡ n → 1 < length ws → length ws ≤ e.held.cap
 
   falls_at : (e : Entry) (p : Place) → Room e → e.held.flies ≡ Some p → p.request ≡ n → Falls (fate_at e.held p) e
   unfolding fate_at tries_at
   falls_at e p room is here cap x =
       let s = says_as (tries_at e.held) ws p.place (kind_of e.held.op.action) a (Halved cap) x in
       let some = s.1 in
-      let le = room s.0 p is here (omega (arith, some)) in
+      let le = room s.0.0 s.0.1 p is here (omega (arith, some)) in
       subst (λ k. halvings k + 1 ≤ halvings e.held.cap) (sym s.2) (halvings-half (length ws) e.held.cap some le)
 
   by_number : (e : Entry) (p : Place) (b : Bool) → (p.request == n) ≡ b → Room e → e.held.flies ≡ Some p
@@ -181,19 +182,19 @@ module _ (g : Config) (clock n : ℕ) (ws : List Write) (a : Answer) (answers : 
 pub left_answered : (s : State) (number : ℕ) (a : Answer) → IsLane s → a ≢ Unanswered → sends_left (after_answer_to s number a) ≤ sends_left s
 left_answered s number a l answers =
     all_at_most s.core.config s.core.clock (from_zero number) (writes_at (from_zero number) s.core.flying) a answers s.core.held
-    (λ e m large p is here more.
+    (λ e m reason large p is here more.
     let ws = ap (λ k. length (writes_at k s.core.flying)) here in
     let le = ((l.in_order e m).flies p is).room (omega (arith, more, ws)) in
     omega (arith, le, ws))
 
 -- what is lost is not halved
-pub left_lost : (s : State) (number : ℕ) → sends_left (after_answer_to s number Lost) ≤ sends_left s
-left_lost s number =
-    all_at_most s.core.config s.core.clock (from_zero number) (writes_at (from_zero number) s.core.flying) Lost (λ e. cc) s.core.held
-    (λ e m large. absurd (cc))
+pub left_lost : (s : State) (number : ℕ) (why : Loss) → sends_left (after_answer_to s number (Lost why)) ≤ sends_left s
+left_lost s number why =
+    all_at_most s.core.config s.core.clock (from_zero number) (writes_at (from_zero number) s.core.flying) (Lost why) (λ e. cc) s.core.held
+    (λ e m reason large. absurd (cc))
 
-pub fail_takes : (n : ℕ) (s : State) (items : List BatchItem) → next_batch s ≡ Some items → sends_left (after_fail n s) + 1 ≤ sends_left s
-fail_takes n s items some = let a = request_takes s items some in let b = left_lost (after_ticks n (after_send s)) s.flights.next in omega (arith, a, b)
+pub fail_takes : (why : Loss) (n : ℕ) (s : State) (items : List BatchItem) → next_batch s ≡ Some items → sends_left (after_fail why n s) + 1 ≤ sends_left s
+fail_takes why n s items some = let a = request_takes s items some in let b = left_lost (after_ticks n (after_send s)) s.flights.next why in omega (arith, a, b)
 
 -- ---- each is one that was held
 

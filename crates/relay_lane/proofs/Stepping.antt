@@ -1,5 +1,5 @@
 -- One turn of a loop: what it preserves and what decreases.
-use Rattle.std.proofs.Common.{◌≡◌, ◌≢◌, ℕ, ◌+◌, ◌*◌, ◌<◌, ◌≤◌, List, length, Option, Some, None, Bool, true, false, refl, sym, ap, ◌∙◌, subst, ⊎_elim, inl, inr, arith}
+use Rattle.std.proofs.Common.{◌≡◌, ◌≢◌, ℕ, ◌+◌, ◌*◌, ◌<◌, ◌≤◌, List, [], length, Option, Some, None, Bool, true, false, refl, sym, ap, ◌∙◌, subst, ⊎_elim, inl, inr, arith}
 use Rattle.std.specs.Prelude.{◌⊎◌, is_some, not, min}
 use Rattle.std.specs.List.{list_all}
 use Rattle.std.proofs.Math.Nat.{mul-le-mul_left}
@@ -7,21 +7,20 @@ use Rattle.std.proofs.lemmas.Bool.{cases_lt}
 use Rattle.relay_batch.specs.declared.item.BatchItem.{BatchItem}
 use Rattle.relay_results.specs.Outside.{Answer, Outside, Unanswered, Lost}
 use Rattle.relay_results.specs.Words.{Mem}
-use Rattle.relay_results.proofs.Steps.{continues_itself}
-use Rattle.relay_delivery.proofs.Fitting.{clock_fits}
 use Rattle.relay_delivery.specs.Lane.{Entry}
 use Rattle.relay_core.specs.State.{State, IsLane, last_tick, all_closed, next_batch, after_request, after_answer_to, due_in}
-use Rattle.relay_core.specs.Ties.{Fits}
 use Rattle.relay_core.proofs.Valid.{valid_facts}
-use Rattle.relay_lane.specs.Turns.{Turn, Sends, Fails, Settles, Pauses, after_send, after_fail, after_answer, after_ticks, after_turn, MayTurn, Worked, Paused, Passed, sends_in, ticks_in, pumps, sends_only, sends_first, sends_left}
-use Rattle.relay_lane.specs.Steps.{Asked, Settled, IsPressed}
+use Rattle.relay_results.specs.declared.cause.Loss.{Loss}
+use Rattle.relay_lane.specs.Turns.{Turn, Sends, Fails, Settles, Pauses, after_send, after_fail, after_answer, after_ticks, after_turn, MayTurn, Paused, Passed, sends_in, ticks_in, pumps, sends_only, sends_first, sends_left}
+use Rattle.relay_lane.specs.Calls.{called_by}
+use Rattle.relay_lane.specs.Steps.{Asked, Settled, IsPressed, Progressed}
 use Rattle.relay_lane.specs.Delivers.{Delivers}
 use Rattle.relay_lane.specs.Laws.{Keeps}
 use Rattle.relay_lane.proofs.Limits.{valid_limits}
 use Rattle.relay_lane.proofs.Out.{oldest_is, oldest_number, flying_first, one_fewer, one_gone, flying_more, flying_again}
 use Rattle.relay_lane.proofs.Sends.{request_takes, fail_takes, left_answered, from_sent, from_answered}
-use Rattle.relay_lane.proofs.Counting.{works_on, worked_turn, some_batch, turn_keeps, left_at_most}
-use Rattle.relay_lane.proofs.Carrying.{goes_on}
+use Rattle.relay_lane.proofs.Counting.{some_batch, stays_as, turn_keeps, left_at_most}
+use Rattle.relay_lane.proofs.Carrying.{delivers_on}
 use Rattle.relay_lane.proofs.Ticking.{min_low, min_high}
 
 -- ---- what follows from each turn of a loop
@@ -52,9 +51,9 @@ sent_mark : (s : State) (b : Option (List BatchItem)) → ((after_request s b).m
 sent_mark s None = (refl, refl)
 sent_mark s (Some items) = (refl, refl)
 
-from_failed : (n : ℕ) (s : State) (items : List BatchItem) → next_batch s ≡ Some items → (d : Entry) → Mem d (after_fail n s).core.held → (e : Entry) × Mem e s.core.held × (d.held.version ≡ e.held.version)
-from_failed n s items some d m =
-    let x = from_answered (after_ticks n (after_send s)) s.flights.next Lost d m in
+from_failed : (why : Loss) (n : ℕ) (s : State) (items : List BatchItem) → next_batch s ≡ Some items → (d : Entry) → Mem d (after_fail why n s).core.held → (e : Entry) × Mem e s.core.held × (d.held.version ≡ e.held.version)
+from_failed why n s items some d m =
+    let x = from_answered (after_ticks n (after_send s)) s.flights.next (Lost why) d m in
     let y = from_sent s items some x.0 x.1 in
     (y.0, y.1, x.2 ∙ y.2)
 
@@ -75,42 +74,50 @@ sends_turned n s t l some e =
       pressed = λ p. subst IsPressed (sym e) (pressed_as s (after_ticks n (after_send s)) mark.0 mark.1 (from_sent s b.0 b.1) p);
     }
 
-fails_turned : (n : ℕ) (s t : State) → IsLane s → is_some (next_batch s) ≡ true → t ≡ after_fail n s → Turned (Fails n) s t
-fails_turned n s t l some e =
+fails_turned : (why : Loss) (n : ℕ) (s t : State) → IsLane s → is_some (next_batch s) ≡ true → t ≡ after_fail why n s → Turned (Fails why n) s t
+fails_turned why n s t l some e =
     let b = some_batch (next_batch s) some in
-    let takes = fail_takes n s b.0 b.1 in
-    let again = ap length (flying_again s l b.0 b.1 n) in
+    let takes = fail_takes why n s b.0 b.1 in
+    let again = ap length (flying_again s l b.0 b.1 why n) in
     let left = ap sends_left e in
     let flying = ap (λ (x : State). length x.core.flying) e in
     let mark = sent_mark s (next_batch s) in
     record {
       may = some;
       reached = e;
-      keeps = keeps_as 1 n s (after_fail n s) t e (turn_keeps (Fails n) s some);
+      keeps = keeps_as 1 n s (after_fail why n s) t e (turn_keeps (Fails why n) s some);
       left = omega (arith, takes, left);
       falls = omega (arith, takes, left, again, flying);
-      pressed = λ p. subst IsPressed (sym e) (pressed_as s (after_fail n s) mark.0 mark.1 (from_failed n s b.0 b.1) p);
+      pressed = λ p. subst IsPressed (sym e) (pressed_as s (after_fail why n s) mark.0 mark.1 (from_failed why n s b.0 b.1) p);
     }
 
 -- a request was sent, or could not be
-pub record Sent (s t : State) : Type 0 where
+pub record Sent {S : Type 0} (d : Bool) (fits : S → Outside → Type 0) (old new : S) (s t : State) : Type 0 where
   pub turn : Turn
   pub turned : Turned turn s t
   pub one : sends_in turn ≡ 1
   pub may_pump : pumps turn s ≡ true
   pub may_send : sends_only turn s ≡ true
   pub goes_first : sends_first turn s ≡ true
+  pub delivers : Delivers d fits old new s t (called_by turn s)
 
-pub asked_sent : (b : Bool) (s t : State) → IsLane s → b ≡ is_some (next_batch s) → b ≡ true → Asked b s t → Sent s t
-asked_sent b s t l some is asked =
-    let a = subst (λ c. Asked c s t) is asked in
-    ⊎_elim {C = Sent s t}
-    (λ e. record { turn = Sends a.0; turned = sends_turned a.0 s t l (sym some ∙ is) e; one = refl; may_pump = refl; may_send = refl; goes_first = refl })
-    (λ e. record { turn = Fails a.0; turned = fails_turned a.0 s t l (sym some ∙ is) e; one = refl; may_pump = refl; may_send = refl; goes_first = refl })
-    a.1
+module _ {S : Type 0} (d : Bool) (fits : S → Outside → Type 0) (old new : S) where
+  sent_by : (turn : Turn) (s t : State) → IsLane s → is_some (next_batch s) ≡ true → sends_in turn ≡ 1 → t ≡ after_turn turn s → Delivers d fits old new s t (called_by turn s) → Sent d fits old new s t
+  sent_by (Sends n) s t l some one e k = record { turn = Sends n; turned = sends_turned n s t l some e; one = refl; may_pump = refl; may_send = refl; goes_first = refl; delivers = k }
+  sent_by (Fails why n) s t l some one e k = record { turn = Fails why n; turned = fails_turned why n s t l some e; one = refl; may_pump = refl; may_send = refl; goes_first = refl; delivers = k }
+  sent_by (Settles n a) s t l some one e k = absurd (cc)
+  sent_by (Pauses n) s t l some one e k = absurd (cc)
 
-pub not_asked : (b : Bool) (s t : State) → b ≡ false → Asked b s t → t ≡ s
-not_asked b s t e x = subst (λ c. Asked c s t) e x
+  pub asked_sent : (b : Bool) (s t : State) → IsLane s → b ≡ is_some (next_batch s) → b ≡ true → Asked d fits old new b s t → Sent d fits old new s t
+  asked_sent b s t l some is asked =
+      let a = subst (λ c. Asked d fits old new c s t) is asked in
+      sent_by a.0 s t l (sym some ∙ is) a.1 a.2 a.3
+
+  pub not_asked : (b : Bool) (s t : State) → b ≡ false → Asked d fits old new b s t → t ≡ s
+  not_asked b s t e x = (subst (λ c. Asked d fits old new c s t) e x).0
+
+  pub not_called : (b : Bool) (s t : State) → b ≡ false → Asked d fits old new b s t → Delivers d fits old new s t []
+  not_called b s t e x = (subst (λ c. Asked d fits old new c s t) e x).1
 
 -- the oldest was answered
 answered_turned : (n : ℕ) (s t : State) (a : Answer) → IsLane (after_ticks n s) → 0 < length s.core.flying → a ≢ Unanswered → t ≡ after_answer a (after_ticks n s) → Turned (Settles n a) s t
@@ -132,19 +139,14 @@ answered_turned n s t a l some answers e =
       pressed = λ p. subst IsPressed (sym (e ∙ at)) (pressed_as s (after_answer_to u k.0 a) refl refl (from_answered u k.0 a) p);
     }
 
-pub settles_turned : (s t : State) (x : Settled s t) → 0 < length s.core.flying → Turned (Settles x.ticks x.answer) s t
-settles_turned s t x some = answered_turned x.ticks s t x.answer x.lane some x.answers x.reached
+module _ {S : Type 0} (d : Bool) (fits : S → Outside → Type 0) (old new : S) where
+  pub settles_turned : (s t : State) (x : Settled d fits old new s t) → 0 < length s.core.flying → Turned (Settles x.ticks x.answer) s t
+  settles_turned s t x some = answered_turned x.ticks s t x.answer x.lane some x.answers x.reached
 
-pub settled_one : (s t : State) (x : Settled s t) → 0 < length s.core.flying → length s.core.flying ≡ length t.core.flying + 1
-settled_one s t x some = one_gone (after_ticks x.ticks s) t x.answer x.lane some x.reached
-
-pub turned_worked : (going : Turn → State → Bool) (s0 s t : State) (x : Turn) → Worked going s0 s → going x s ≡ true → Turned x s t → Worked going s0 t
-turned_worked going s0 s t x w g k = works_on going s0 s t w (worked_turn going x s t g k.may k.reached)
+  pub settled_one : (s t : State) (x : Settled d fits old new s t) → 0 < length s.core.flying → length s.core.flying ≡ length t.core.flying + 1
+  settled_one s t x some = one_gone (after_ticks x.ticks s) t x.answer x.lane some x.reached
 
 -- ---- a pause
-
-pub paused_worked : (going : Turn → State → Bool) (s0 s t : State) (n : ℕ) → Worked going s0 s → going (Pauses n) s ≡ true → length s.core.flying ≡ 0 → next_batch s ≡ None → due_in s ≡ Some n → t ≡ after_ticks n s → Worked going s0 t
-paused_worked going s0 s t n w g still none due e = works_on going s0 s t w (worked_turn going (Pauses n) s t g (still, none, due) e)
 
 pub none_of : {A : Type 0} (b : Option A) → false ≡ is_some b → b ≡ None
 none_of None e = refl
@@ -186,10 +188,6 @@ passed_same x y a b c e p = subst (λ o. Passed x y a o) e p
 pub passed_pause : (n : ℕ) (s t : State) (a b : Option ℕ) → s.core.clock + n ≤ last_tick → t ≡ after_ticks n s → Paused n a b → Passed s.core.clock t.core.clock a b
 passed_pause n s t a b within e p = record { ticks = n; clock = ap (λ (x : State). x.core.clock) e ∙ sym (min_low (s.core.clock + n) last_tick within); shown = p }
 
-pub delivers_ticks : {S : Type 0} (d : Bool) (fits : S → Outside → Type 0) (w : S) (s t : State) (n : ℕ) → t ≡ after_ticks n s → Delivers d fits w w s t
-delivers_ticks d fits w s t n e d_true taken o f l =
-    goes_on fits w t taken o o f (continues_itself o) (subst (λ x. Fits x taken o) (sym e) (clock_fits s.core (s.core.clock + n) taken o l))
-
 -- ---- how many
 
 pub sends_small : (s : State) → IsLane s → sends_left s ≤ 3014656
@@ -207,9 +205,6 @@ most_sent s t l bound = let most = left_at_most s l in omega (arith, bound, most
 
 -- ---- what a test says
 
-pub worked_same : (going : Turn → State → Bool) (s0 s t : State) → t ≡ s → Worked going s0 s → Worked going s0 t
-worked_same going s0 s t e w = subst (Worked going s0) (sym e) w
-
 -- far fewer fly than a number of 32 bits says
 pub few_fly : (s : State) → IsLane s → length s.core.flying ≤ 8
 few_fly s l =
@@ -220,3 +215,54 @@ few_fly s l =
 
 pub none_ready : (b : Bool) (s t : State) → t ≡ s → b ≡ false → b ≡ is_some (next_batch s) → not (is_some (next_batch t)) ≡ true
 none_ready b s t e no_one is = ap (λ (x : State). not (is_some (next_batch x))) e ∙ ap not (sym is ∙ no_one)
+
+-- ---- one turn of work
+
+module _ {S : Type 0} (d : Bool) (fits : S → Outside → Type 0) (v w : S) where
+  -- a request was sent or answered
+  pub progressed : (x : Turn) (s t : State) → sends_first x s ≡ true → Turned x s t → IsPressed s → Delivers d fits v w s t (called_by x s) → Progressed d fits v w s t
+  progressed x s t goes k pressed delivers =
+      let left = k.left in
+      let falls = k.falls in
+      let requests = k.keeps.requests in
+      record {
+        took = record { turn = x; goes = goes; may = k.may; reached = k.reached; delivers = delivers };
+        stays = k.keeps.stays;
+        bound = omega (arith, left, requests);
+        smaller = omega (arith, falls);
+        pressed = k.pressed pressed;
+      }
+
+  -- it paused
+  pub paused : (s t : State) (n : ℕ) → length s.core.flying ≡ 0 → next_batch s ≡ None → due_in s ≡ Some n → 0 < n → s.core.clock + n ≤ last_tick → t ≡ after_ticks n s → IsPressed s → Delivers d fits v w s t (called_by (Pauses n) s) → Progressed d fits v w s t
+  paused s t n still none due some within e pressed delivers =
+      let left = ap sends_left e in
+      let requests = ap (λ (x : State). x.core.requests) e in
+      let flying = ap (λ (x : State). length x.core.flying) e in
+      let clock = ap (λ (x : State). x.core.clock) e in
+      record {
+        took = record { turn = Pauses n; goes = refl; may = (still, none, due); reached = e; delivers = delivers };
+        stays = stays_as s (after_ticks n s) t (record { config = refl; closed = refl; taken = refl }) e;
+        bound = omega (arith, left, requests);
+        smaller = omega (arith, left, flying, clock, some, within);
+        pressed = subst IsPressed (sym e) pressed;
+      }
+
+  -- after nothing was called, on the same lane
+  pub progressed_after : (u : S) (e : Bool) (r s t : State) → e ≡ d → s ≡ r → Delivers d fits u v r s [] → Progressed e fits v w s t → Progressed d fits u w r t
+  progressed_after u e r s t same is before k =
+      let next : Progressed e fits v w r t = subst (λ z. Progressed e fits v w z t) is k in
+      let stood : Delivers d fits u v r r [] = subst (λ z. Delivers d fits u v r z []) is before in
+      record {
+        took = record {
+          turn = next.took.turn;
+          goes = next.took.goes;
+          may = next.took.may;
+          reached = next.took.reached;
+          delivers = delivers_on d e fits u v w r r t [] (called_by next.took.turn r) same stood next.took.delivers;
+        };
+        stays = next.stays;
+        bound = next.bound;
+        smaller = next.smaller;
+        pressed = next.pressed;
+      }

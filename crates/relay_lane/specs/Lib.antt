@@ -1,6 +1,7 @@
 pub mod Wires
 pub mod Out
 pub mod Turns
+pub mod Calls
 pub mod Steps
 pub mod Delivers
 pub mod Reach

@@ -1,5 +1,6 @@
 -- What a lane does at work on a wire, turn by turn, and how many requests it may send.
-use Rattle.std.specs.Prelude.{◌≡◌, ◌≢◌, ◌+◌, ◌-◌, ◌<◌, ℕ, List, [], ◌∷◌, Option, Some, None, unwrap_or, is_some, ◌≤◌, Bool, true, false, not, ◌&&◌, nat_lt, nat_le, min, length, if◌then◌else◌}
+use Rattle.std.specs.Prelude.{◌≡◌, ◌≢◌, ◌+◌, ◌-◌, ◌*◌, ◌<◌, ℕ, List, [], ◌∷◌, Option, Some, None, unwrap_or, is_some, ◌≤◌, Bool, true, false, not, ◌&&◌, nat_lt, nat_le, min, length, if◌then◌else◌}
+use Rattle.relay_results.specs.declared.cause.Loss.{Loss}
 use Rattle.relay_results.specs.Outside.{Answer, Unanswered, Lost}
 use Rattle.relay_delivery.specs.Bound.{halvings}
 use Rattle.relay_delivery.specs.Machine.{Place}
@@ -8,11 +9,11 @@ use Rattle.relay_core.specs.State.{State, last_tick, next_batch, after_request, 
 
 -- ---- turns
 
--- its next request is sent; or it cannot be sent, and counts as lost; the oldest request in flight is answered; or
+-- its next request is sent; or it cannot be sent, for this reason, and counts as lost; the oldest request in flight is answered; or
 -- it pauses: in each as many ticks pass, those of an answer or a loss before it is settled
 pub data Turn : Type 0 where
   Sends : ℕ → Turn
-  Fails : ℕ → Turn
+  Fails : Loss → ℕ → Turn
   Settles : ℕ → Answer → Turn
   Pauses : ℕ → Turn
 
@@ -22,15 +23,15 @@ after_send s = after_request s (next_batch s)
 abbrev pub after_ticks : ℕ → State → State
 after_ticks n s = record s { core = record s.core { clock = s.core.clock + n } }
 
-abbrev pub after_fail : ℕ → State → State
-after_fail n s = after_answer_to (after_ticks n (after_send s)) s.flights.next Lost
+abbrev pub after_fail : Loss → ℕ → State → State
+after_fail why n s = after_answer_to (after_ticks n (after_send s)) s.flights.next (Lost why)
 
 abbrev pub after_answer : Answer → State → State
 after_answer a s = after_answer_to s (unwrap_or (oldest s) 0) a
 
 abbrev pub after_turn : Turn → State → State
 after_turn (Sends n) s = after_ticks n (after_send s)
-after_turn (Fails n) s = after_fail n s
+after_turn (Fails why n) s = after_fail why n s
 after_turn (Settles n a) s = after_answer a (after_ticks n s)
 after_turn (Pauses n) s = after_ticks n s
 
@@ -38,7 +39,7 @@ after_turn (Pauses n) s = after_ticks n s
 -- pauses until the first operation is due
 abbrev pub MayTurn : Turn → State → Type 0
 MayTurn (Sends n) s = is_some (next_batch s) ≡ true
-MayTurn (Fails n) s = is_some (next_batch s) ≡ true
+MayTurn (Fails why n) s = is_some (next_batch s) ≡ true
 MayTurn (Settles n a) s = (0 < length s.core.flying) × (a ≢ Unanswered)
 MayTurn (Pauses n) s = (length s.core.flying ≡ 0) × (next_batch s ≡ None) × (due_in s ≡ Some n)
 
@@ -67,14 +68,14 @@ pub record Stays (old new : State) : Type 0 where
 -- the number of requests that a turn sends, or tries to send
 abbrev pub sends_in : Turn → ℕ
 sends_in (Sends n) = 1
-sends_in (Fails n) = 1
+sends_in (Fails why n) = 1
 sends_in (Settles n a) = 0
 sends_in (Pauses n) = 0
 
 -- the number of ticks that pass in a turn
 abbrev pub ticks_in : Turn → ℕ
 ticks_in (Sends n) = n
-ticks_in (Fails n) = n
+ticks_in (Fails why n) = n
 ticks_in (Settles n a) = n
 ticks_in (Pauses n) = n
 
@@ -110,28 +111,28 @@ is_crowded s = nat_le s.config.in_flight (length s.core.flying)
 -- whatever is ready is sent, an answer is waited for only if no place is free, and there is no pause
 abbrev pub pumps : Turn → State → Bool
 pumps (Sends n) s = true
-pumps (Fails n) s = true
+pumps (Fails why n) s = true
 pumps (Settles n a) s = is_crowded s
 pumps (Pauses n) s = false
 
 -- whatever is ready is sent, no answer is waited for, and there is no pause
 abbrev pub sends_only : Turn → State → Bool
 sends_only (Sends n) s = true
-sends_only (Fails n) s = true
+sends_only (Fails why n) s = true
 sends_only (Settles n a) s = false
 sends_only (Pauses n) s = false
 
 -- nothing is sent, and there is no pause
 abbrev pub collects : Turn → State → Bool
 collects (Sends n) s = false
-collects (Fails n) s = false
+collects (Fails why n) s = false
 collects (Settles n a) s = true
 collects (Pauses n) s = false
 
 -- an answer is waited for only if nothing is to be sent
 abbrev pub sends_first : Turn → State → Bool
 sends_first (Sends n) s = true
-sends_first (Fails n) s = true
+sends_first (Fails why n) s = true
 sends_first (Settles n a) s = not (is_some (next_batch s))
 sends_first (Pauses n) s = true
 
@@ -160,3 +161,7 @@ sends_among most (e ∷ es) = sends_of most e.held.attempts e.held.flies + halvi
 
 abbrev pub sends_left : State → ℕ
 sends_left s = sends_among s.core.config.max s.core.held
+
+-- what decreases with each turn: what may still be sent and is in flight, and then the ticks that the clock has left
+abbrev pub work_left : State → ℕ
+work_left s = (sends_left s * 2 + length s.core.flying) * 18446744073709551616 + (last_tick - s.core.clock)

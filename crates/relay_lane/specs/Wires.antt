@@ -5,21 +5,21 @@ use Rattle.relay_results.specs.Numbers.{from_one, from_zero}
 use Rattle.relay_results.specs.Outside.{Answer, Items, Whole, Lost, Outside, Event, Sends, Runs, Answers, MayAnswer, after, after_all, AllMayHappen}
 use Rattle.relay_lane.specs.declared.wire.WireReply.{WireReply}
 use Rattle.relay_lane.specs.declared.wire.WireReply.TheVariants as reply
-use Rattle.relay_lane.specs.declared.wire.WireFault.{WireFault}
+use Rattle.relay_results.specs.declared.cause.Loss.{Loss}
 
 -- ---- what is answered
 
--- what a result means to the lane: each fault is a loss
-abbrev pub answer_of : Result WireReply WireFault → Answer
+-- what a result means to the lane
+abbrev pub answer_of : Result WireReply Loss → Answer
 answer_of (Ok (reply.Items outcomes)) = Items outcomes.items
-answer_of (Ok (reply.Whole status)) = Whole status
-answer_of (Err fault) = Lost
+answer_of (Ok (reply.Whole status reason)) = Whole status reason
+answer_of (Err why) = Lost why
 
 -- a status of the request as a whole is not 200
-abbrev pub IsWireReply : Result WireReply WireFault → Type 0
+abbrev pub IsWireReply : Result WireReply Loss → Type 0
 IsWireReply (Ok (reply.Items outcomes)) = Unit {0}
-IsWireReply (Ok (reply.Whole status)) = status ≢ 200
-IsWireReply (Err fault) = Unit {0}
+IsWireReply (Ok (reply.Whole status reason)) = status ≢ 200
+IsWireReply (Err why) = Unit {0}
 
 -- ---- what happens outside meanwhile
 

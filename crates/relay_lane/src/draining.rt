@@ -1,13 +1,13 @@
 //! A lane sends, repeats and settles over a wire. The ticks that pass while a call waits for the
 //! wire are counted, as its pace returns them, before the lane decides anything.
-ghost use Rattle.std.specs.Prelude.{◌≡◌, ◌+◌, ◌*◌, ◌-◌, ◌<◌, ◌≤◌, [], None, true, length, nat_lt};
-ghost use Rattle.std.specs.Prelude.{IfOk, OnOk, OnErr};
+ghost use Rattle.std.specs.Prelude.{◌≡◌, ◌+◌, ◌*◌, ◌-◌, ◌<◌, ◌≤◌, [], None, true, false, length};
+ghost use Rattle.std.specs.Prelude.{nat_lt, IfOk, OnOk, OnErr, MatchResult};
 ghost use Rattle.relay_core.specs.State.{next_batch, all_closed, after_flush};
 ghost use Rattle.relay_lane.specs.Out.{out_of};
-ghost use Rattle.relay_lane.specs.Turns.{Worked, Stays, pumps, sends_only, collects, holds};
-ghost use Rattle.relay_lane.specs.Turns.{holds_some, is_full, Passed, sends_left};
-ghost use Rattle.relay_lane.specs.Steps.{IsPressed};
-ghost use Rattle.relay_lane.specs.Delivers.{Delivers};
+ghost use Rattle.relay_lane.specs.Turns.{Stays, pumps, sends_only, collects, holds};
+ghost use Rattle.relay_lane.specs.Turns.{holds_some, is_full, Passed, sends_left, work_left};
+ghost use Rattle.relay_lane.specs.Steps.{IsPressed, Progressed};
+ghost use Rattle.relay_lane.specs.Delivers.{Delivers, TookTurnIf, WorkedOn};
 
 use crate::pace::Pace;
 use crate::turn::{send_next, settle_oldest, wait};
@@ -32,7 +32,8 @@ pub fn pump<W: Wire, P: Pace>(
     ensures place { OnOk result
         (length lane.new.state.core.flying < lane.new.state.config.in_flight) }
     ensures memory { OnErr result (0 < length lane.new.state.core.held) }
-    ensures worked { Worked pumps lane.old.state lane.new.state }
+    ensures worked { WorkedOn (W.describes wire.old) W.fits pumps wire.old wire.new
+        lane.old.state lane.new.state }
     ensures passed { Passed lane.old.state.core.clock lane.new.state.core.clock
         (P.paused pace.old) (P.paused pace.new) }
     ensures bound { lane.new.state.core.requests + sends_left lane.new.state
@@ -40,8 +41,6 @@ pub fn pump<W: Wire, P: Pace>(
     ensures stays { Stays lane.old.state lane.new.state }
     ensures out { W.out wire.new ≡ out_of lane.new.state }
     ensures describes { W.describes wire.new ≡ W.describes wire.old }
-    ensures delivers { Delivers (W.describes wire.old) W.fits wire.old wire.new lane.old.state
-        lane.new.state }
 {
     let _ = lane.totals();
     let places = lane.in_flight();
@@ -70,7 +69,8 @@ pub fn send_ready<W: Wire, P: Pace>(
         (λ n. lane.new.state.core.requests ≡ lane.old.state.core.requests + n) }
     ensures done { OnOk result (next_batch lane.new.state ≡ None) }
     ensures memory { OnErr result (0 < length lane.new.state.core.held) }
-    ensures worked { Worked sends_only lane.old.state lane.new.state }
+    ensures worked { WorkedOn (W.describes wire.old) W.fits sends_only wire.old wire.new
+        lane.old.state lane.new.state }
     ensures passed { Passed lane.old.state.core.clock lane.new.state.core.clock
         (P.paused pace.old) (P.paused pace.new) }
     ensures bound { lane.new.state.core.requests + sends_left lane.new.state
@@ -78,8 +78,6 @@ pub fn send_ready<W: Wire, P: Pace>(
     ensures stays { Stays lane.old.state lane.new.state }
     ensures out { W.out wire.new ≡ out_of lane.new.state }
     ensures describes { W.describes wire.new ≡ W.describes wire.old }
-    ensures delivers { Delivers (W.describes wire.old) W.fits wire.old wire.new lane.old.state
-        lane.new.state }
 {
     let _ = lane.totals();
     let mut count: u64 = 0;
@@ -98,7 +96,8 @@ pub fn settle_next<W: Wire, P: Pace>(lane: &mut Lane, wire: &mut W, pace: &mut P
     requires out { W.out wire.old ≡ out_of lane.old.state }
     ensures some { result ≡ nat_lt 0 (length lane.old.state.core.flying) }
     ensures one { length lane.new.state.core.flying ≡ length lane.old.state.core.flying - 1 }
-    ensures worked { Worked collects lane.old.state lane.new.state }
+    ensures worked { WorkedOn (W.describes wire.old) W.fits collects wire.old wire.new
+        lane.old.state lane.new.state }
     ensures requests { lane.new.state.core.requests ≡ lane.old.state.core.requests }
     ensures passed { Passed lane.old.state.core.clock lane.new.state.core.clock
         (P.paused pace.old) (P.paused pace.new) }
@@ -106,8 +105,6 @@ pub fn settle_next<W: Wire, P: Pace>(lane: &mut Lane, wire: &mut W, pace: &mut P
     ensures stays { Stays lane.old.state lane.new.state }
     ensures out { W.out wire.new ≡ out_of lane.new.state }
     ensures describes { W.describes wire.new ≡ W.describes wire.old }
-    ensures delivers { Delivers (W.describes wire.old) W.fits wire.old wire.new lane.old.state
-        lane.new.state }
 {
     let _ = lane.totals();
     if lane.flying() == 0 {
@@ -123,7 +120,8 @@ pub fn collect<W: Wire, P: Pace>(lane: &mut Lane, wire: &mut W, pace: &mut P) ->
     requires out { W.out wire.old ≡ out_of lane.old.state }
     ensures count { result ≡ length lane.old.state.core.flying }
     ensures none { lane.new.state.core.flying ≡ [] }
-    ensures worked { Worked collects lane.old.state lane.new.state }
+    ensures worked { WorkedOn (W.describes wire.old) W.fits collects wire.old wire.new
+        lane.old.state lane.new.state }
     ensures requests { lane.new.state.core.requests ≡ lane.old.state.core.requests }
     ensures passed { Passed lane.old.state.core.clock lane.new.state.core.clock
         (P.paused pace.old) (P.paused pace.new) }
@@ -131,8 +129,6 @@ pub fn collect<W: Wire, P: Pace>(lane: &mut Lane, wire: &mut W, pace: &mut P) ->
     ensures stays { Stays lane.old.state lane.new.state }
     ensures out { W.out wire.new ≡ [] }
     ensures describes { W.describes wire.new ≡ W.describes wire.old }
-    ensures delivers { Delivers (W.describes wire.old) W.fits wire.old wire.new lane.old.state
-        lane.new.state }
 {
     let _ = lane.totals();
     let mut settled: u64 = 0;
@@ -141,6 +137,37 @@ pub fn collect<W: Wire, P: Pace>(lane: &mut Lane, wire: &mut W, pace: &mut P) ->
         settled += 1;
     }
     settled
+}
+
+// Takes one turn of a lane that holds something: its next request is sent, or if none is ready, the
+// oldest in flight is answered, or if none is in flight either, it pauses.
+fn take_turn<W: Wire, P: Pace>(
+    lane: &mut Lane,
+    wire: &mut W,
+    pace: &mut P,
+) -> Result<(), AllocError>
+    requires some { 0 < length lane.old.state.core.held }
+    requires pressed { IsPressed lane.old.state }
+    requires out { W.out wire.old ≡ out_of lane.old.state }
+    ensures turn { OnOk result (Progressed (W.describes wire.old) W.fits wire.old wire.new
+        lane.old.state lane.new.state) }
+    ensures unchanged { OnErr result (lane.new.state ≡ lane.old.state) }
+    ensures delivers { OnErr result (Delivers (W.describes wire.old) W.fits wire.old wire.new
+        lane.old.state lane.new.state []) }
+    ensures passed { Passed lane.old.state.core.clock lane.new.state.core.clock
+        (P.paused pace.old) (P.paused pace.new) }
+    ensures out { W.out wire.new ≡ out_of lane.new.state }
+    ensures describes { W.describes wire.new ≡ W.describes wire.old }
+{
+    if send_next(lane, wire, pace)? {
+        return Ok(());
+    }
+    if lane.flying() > 0 {
+        settle_oldest(lane, wire, pace); // so that no answer waits out a pause
+        return Ok(());
+    }
+    wait(lane, pace);
+    Ok(())
 }
 
 // Sends, repeats and settles until fewer than `least` operations are held.
@@ -155,7 +182,8 @@ fn work<W: Wire, P: Pace>(
     requires out { W.out wire.old ≡ out_of lane.old.state }
     ensures done { OnOk result (length lane.new.state.core.held < least) }
     ensures memory { OnErr result (least ≤ length lane.new.state.core.held) }
-    ensures worked { Worked (holds least) lane.old.state lane.new.state }
+    ensures worked { WorkedOn (W.describes wire.old) W.fits (holds least) wire.old wire.new
+        lane.old.state lane.new.state }
     ensures bound { lane.new.state.core.requests + sends_left lane.new.state
         ≤ lane.old.state.core.requests + sends_left lane.old.state }
     ensures passed { Passed lane.old.state.core.clock lane.new.state.core.clock
@@ -163,19 +191,10 @@ fn work<W: Wire, P: Pace>(
     ensures stays { Stays lane.old.state lane.new.state }
     ensures out { W.out wire.new ≡ out_of lane.new.state }
     ensures describes { W.describes wire.new ≡ W.describes wire.old }
-    ensures delivers { Delivers (W.describes wire.old) W.fits wire.old wire.new lane.old.state
-        lane.new.state }
 {
     let _ = lane.totals();
     'turns: while lane.held() >= least {
-        if send_next(lane, wire, pace)? {
-            continue;
-        }
-        if lane.flying() > 0 {
-            settle_oldest(lane, wire, pace); // so that no answer waits out a pause
-        } else {
-            wait(lane, pace);
-        }
+        take_turn(lane, wire, pace)?;
     }
     Ok(())
 }
@@ -193,7 +212,8 @@ pub fn make_room<W: Wire, P: Pace>(
     ensures done { OnOk result (length lane.new.state.core.held < lane.new.state.config.max_held) }
     ensures memory { OnErr result
         (lane.new.state.config.max_held ≤ length lane.new.state.core.held) }
-    ensures worked { Worked is_full (after_flush lane.old.state) lane.new.state }
+    ensures worked { WorkedOn (W.describes wire.old) W.fits is_full wire.old wire.new
+        (after_flush lane.old.state) lane.new.state }
     ensures bound { lane.new.state.core.requests + sends_left lane.new.state
         ≤ lane.old.state.core.requests + sends_left lane.old.state }
     ensures passed { Passed lane.old.state.core.clock lane.new.state.core.clock
@@ -201,8 +221,6 @@ pub fn make_room<W: Wire, P: Pace>(
     ensures stays { Stays lane.old.state lane.new.state }
     ensures out { W.out wire.new ≡ out_of lane.new.state }
     ensures describes { W.describes wire.new ≡ W.describes wire.old }
-    ensures delivers { Delivers (W.describes wire.old) W.fits wire.old wire.new lane.old.state
-        lane.new.state }
 {
     let _ = lane.totals();
     let most = lane.max_held();
@@ -225,7 +243,8 @@ pub fn drain<W: Wire, P: Pace>(
     requires out { W.out wire.old ≡ out_of lane.old.state }
     ensures done { OnOk result (lane.new.state.core.held ≡ []) }
     ensures memory { OnErr result (0 < length lane.new.state.core.held) }
-    ensures worked { Worked holds_some lane.old.state lane.new.state }
+    ensures worked { WorkedOn (W.describes wire.old) W.fits holds_some wire.old wire.new
+        lane.old.state lane.new.state }
     ensures bound { lane.new.state.core.requests + sends_left lane.new.state
         ≤ lane.old.state.core.requests + sends_left lane.old.state }
     ensures most { lane.new.state.core.requests
@@ -236,9 +255,42 @@ pub fn drain<W: Wire, P: Pace>(
     ensures stays { Stays lane.old.state lane.new.state }
     ensures out { W.out wire.new ≡ out_of lane.new.state }
     ensures describes { W.describes wire.new ≡ W.describes wire.old }
-    ensures delivers { Delivers (W.describes wire.old) W.fits wire.old wire.new lane.old.state
-        lane.new.state }
 {
     let _ = lane.totals();
     work(lane, wire, pace, 1)
+}
+
+/// One turn of [`drain`], if a closed lane holds something; returns whether it did. So a caller that
+/// repeats it until it returns false has drained the lane, and can look at it after each turn; each
+/// leaves less to do (`work_left`). `AllocError`: allocating a request failed; the lane is unchanged.
+pub fn drain_next<W: Wire, P: Pace>(
+    lane: &mut Lane,
+    wire: &mut W,
+    pace: &mut P,
+) -> Result<bool, AllocError>
+    requires closed { all_closed lane.old.state ≡ true }
+    requires out { W.out wire.old ≡ out_of lane.old.state }
+    ensures some { IfOk result (λ some. some ≡ nat_lt 0 (length lane.old.state.core.held)) }
+    ensures turn { MatchResult result
+        (λ some. TookTurnIf some (W.describes wire.old) W.fits holds_some wire.old wire.new
+        lane.old.state lane.new.state)
+        (λ _. TookTurnIf false (W.describes wire.old) W.fits holds_some wire.old wire.new
+        lane.old.state lane.new.state) }
+    ensures memory { OnErr result (0 < length lane.old.state.core.held) }
+    ensures smaller { IfOk result (λ some. some ≡ true
+        → work_left lane.new.state < work_left lane.old.state) }
+    ensures bound { lane.new.state.core.requests + sends_left lane.new.state
+        ≤ lane.old.state.core.requests + sends_left lane.old.state }
+    ensures passed { Passed lane.old.state.core.clock lane.new.state.core.clock
+        (P.paused pace.old) (P.paused pace.new) }
+    ensures stays { Stays lane.old.state lane.new.state }
+    ensures out { W.out wire.new ≡ out_of lane.new.state }
+    ensures describes { W.describes wire.new ≡ W.describes wire.old }
+{
+    let _ = lane.totals();
+    if lane.held() == 0 {
+        return Ok(false);
+    }
+    take_turn(lane, wire, pace)?;
+    Ok(true)
 }

@@ -4,6 +4,7 @@ ghost use Rattle.relay_lane.specs.Reach.{FreshIsReached, TakeIsReached, TurnIsRe
 ghost use Rattle.relay_lane.specs.Reach.{WorkIsReached, ReachedIsOrderly};
 ghost use Rattle.relay_lane.specs.Laws.{NothingIsOut, TakeKeepsOut, TurnsKeep, WorksOn, LeftAtMost};
 ghost use Rattle.relay_lane.specs.Laws.{LeftIsTries};
+ghost use Rattle.relay_lane.specs.Calls.{TurnIsCalls};
 ghost use Rattle.relay_lane.specs.Once.{FreshHasNone, TakeAddsOne, TurnKeepsTimes};
 ghost use Rattle.relay_lane.specs.Once.{WorkKeepsTimes, ForgettingPassesOn};
 
@@ -43,6 +44,12 @@ pub fn lanes_stay_orderly()
     ensures turn { TurnIsReached }
     ensures work { WorkIsReached }
     ensures orderly { ReachedIsOrderly }
+{}
+
+/// What a lane does on a wire are calls of its core that may be made: the calls of each turn lead to
+/// the core after it.
+pub fn turns_are_calls()
+    ensures { TurnIsCalls }
 {}
 
 /// Each operation that a lane takes ends once, whatever the wire returns: it is held, noted as

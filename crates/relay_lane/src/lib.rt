@@ -14,9 +14,10 @@ pub mod pace;
 mod turn;
 pub mod wire;
 
-pub use draining::{collect, drain, make_room, pump, send_ready, settle_next};
+pub use draining::{collect, drain, drain_next, make_room, pump, send_ready, settle_next};
 pub use pace::{Pace, pass};
 pub use relay_core::{
     Cause, Lane, NotFlying, RelayConfig, Report, Settled, Success, TakeFault, Totals,
 };
-pub use wire::{Wire, WireFault, WireReply};
+pub use relay_results::Loss;
+pub use wire::{Wire, WireReply};

@@ -7,35 +7,17 @@ ghost use Rattle.relay_results.specs.Words.{Mem};
 ghost use Rattle.relay_lane.specs.Wires.{answer_of, IsWireReply, SendsOn, AnswersOn, ExchangesOn};
 ghost use Rattle.relay_lane.specs.Wires.{Shows, ShowsNext, without};
 
-use relay_action::Write;
-use relay_results::Outcome;
-use thiserror::Error;
+use relay_action::{Text, Write};
+use relay_results::{Loss, Outcome};
 
 /// What a wire returns for a request.
 #[derive(Debug, Drop)]
 pub enum WireReply {
     /// The entries of a readable reply of status 200. They need not match the request.
     Items(Vec<Outcome>),
-    /// A status of the request as a whole, other than 200.
-    Whole(u16),
-}
-
-/// Why a request has no reply. For the lane each of them is a lost reply: it is unknown whether the
-/// index received the request or ran it.
-#[derive(Clone, Copy, Debug, PartialEq, Eq, Error)]
-pub enum WireFault {
-    /// The request could not be sent, or not all of it.
-    #[error("Send")]
-    Send,
-    /// It was sent, and no complete reply arrived.
-    #[error("Lost")]
-    Lost,
-    /// A reply of status 200 arrived that could not be read.
-    #[error("Unreadable")]
-    Unreadable,
-    /// An allocation for the request or for its reply failed.
-    #[error("Memory")]
-    Memory,
+    /// A status of the request as a whole, other than 200, and the reason that is given for it, if
+    /// one is.
+    Whole(u16, Option<Text>),
 }
 
 /// The way from a lane to an index. Requests are identified by number, from 1; a number is
@@ -57,7 +39,7 @@ pub trait Wire {
     /// Sends the writes as the request with this number: at most 10,000 of them, with assigned
     /// versions, and at most 16,777,216 bytes of bulk text. After a fault the number is not
     /// outstanding, and the request counts as sent and lost.
-    fn send(&mut self, number: u64, writes: &[Write]) -> Result<(), WireFault>
+    fn send(&mut self, number: u64, writes: &[Write]) -> Result<(), Loss>
         requires fresh { Mem number (out self.old) → ⊥ }
         requires few { length writes.now ≤ 10000 }
         requires dealt { AreDealt writes.now }
@@ -68,11 +50,11 @@ pub trait Wire {
         ensures describes { describes self.new ≡ describes self.old }
         ensures outside { MatchResult result
             (λ _. ShowsNext (describes self.old) fits self.old self.new number (SendsOn writes.now))
-            (λ _. ShowsNext (describes self.old) fits self.old self.new number
-            (ExchangesOn number writes.now Lost)) };
+            (λ why. ShowsNext (describes self.old) fits self.old self.new number
+            (ExchangesOn number writes.now (Lost why))) };
 
     /// Waits for the answer to the request with this number, which is then no longer outstanding.
-    fn receive(&mut self, number: u64) -> Result<WireReply, WireFault>
+    fn receive(&mut self, number: u64) -> Result<WireReply, Loss>
         requires { Mem number (out self.old) }
         ensures out { out self.new ≡ without number (out self.old) }
         ensures describes { describes self.new ≡ describes self.old }

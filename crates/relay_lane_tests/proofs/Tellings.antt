@@ -2,6 +2,7 @@
 use Rattle.std.proofs.Common.{◌≡◌, ◌≢◌, ℕ, List, [], ◌∷◌, ◌++◌, length, Option, Some, None, false, refl, sym, ap, ◌∙◌, subst, ⊎_elim, arith}
 use Rattle.std.specs.Prelude.{slice_get, is_some}
 use Rattle.std.specs.Option.{option_to_list}
+use Rattle.relay_results.specs.declared.cause.Loss.{Loss}
 use Rattle.relay_action.specs.declared.write.Write.{Write}
 use Rattle.relay_index.specs.States.{State}
 use Rattle.relay_index.specs.Runs.{Shows}
@@ -52,16 +53,16 @@ sent_fits o number ws t found next a = (
   record { runs = a.runs },
 )
 
-pub lost_fits : (o : Outside) (number : ℕ) (ws : List Write) (t : State) (found : List Outcome) (x : Option ℕ) (reply : List Outcome) → IsNext number o → is_some x ≡ false
-    → Sent number ws t o found → (p : Outside) × (Shows p t × IsOutWith x reply p) × ExchangesOn number ws Lost o p
+pub lost_fits : (why : Loss) (o : Outside) (number : ℕ) (ws : List Write) (t : State) (found : List Outcome) (x : Option ℕ) (reply : List Outcome) → IsNext number o → is_some x ≡ false
+    → Sent number ws t o found → (p : Outside) × (Shows p t × IsOutWith x reply p) × ExchangesOn number ws (Lost why) o p
 unfolding Sent
-lost_fits o number ws t found x reply next none a =
+lost_fits why o number ws t found x reply next none a =
     let there : IsSent (from_zero number) ws a.after = ap (λ rs. slice_get rs (from_zero number)) a.same ∙ is_sent o number ws next in
-    let may : MayAnswer a.after (from_zero number) Lost = record { request = record { writes = ws; answer = Unanswered }; sent = there; open_yet = refl; honest = tt } in
-    let p = after (Answers (from_zero number) Lost) a.after in (
+    let may : MayAnswer a.after (from_zero number) (Lost why) = record { request = record { writes = ws; answer = Unanswered }; sent = there; open_yet = refl; honest = tt } in
+    let p = after (Answers (from_zero number) (Lost why)) a.after in (
       p,
-      (shows_answered a.after (from_zero number) Lost t a.shows, none_out x reply p none),
-      record { between = a.after; sends = record { runs = a.runs }; answers = lost_on a.after number may },
+      (shows_answered a.after (from_zero number) (Lost why) t a.shows, none_out x reply p none),
+      record { between = a.after; sends = record { runs = a.runs }; answers = lost_on why a.after number may },
     )
 
 -- ---- what is answered
@@ -76,11 +77,11 @@ answered_by number a o t shows may later =
     let p = after (Answers (from_zero number) a) o in
     (p, (shows_answered o (from_zero number) a t shows, tt), record { before = o; runs = no_runs o; may = may; reached = refl })
 
-pub answered_lost : (x : Option ℕ) (number : ℕ) (reply later : List Outcome) (o : Outside) (t : State) → Mem number (option_to_list x) → Shows o t → IsOutWith x reply o
-    → (p : Outside) × (Shows p t × IsOutWith None later p) × AnswersOn number Lost o p
-answered_lost x number reply later o t m shows w =
+pub answered_lost : (why : Loss) (x : Option ℕ) (number : ℕ) (reply later : List Outcome) (o : Outside) (t : State) → Mem number (option_to_list x) → Shows o t → IsOutWith x reply o
+    → (p : Outside) × (Shows p t × IsOutWith None later p) × AnswersOn number (Lost why) o p
+answered_lost why x number reply later o t m shows w =
     let y = waits_of x number reply o m w in
-    answered_by number Lost o t shows (record { request = record { writes = y.writes; answer = Unanswered }; sent = y.sent; open_yet = refl; honest = tt }) later
+    answered_by number (Lost why) o t shows (record { request = record { writes = y.writes; answer = Unanswered }; sent = y.sent; open_yet = refl; honest = tt }) later
 
 pub answered_items : (x : Option ℕ) (number : ℕ) (reply later : List Outcome) (o : Outside) (t : State) → Mem number (option_to_list x) → Shows o t → IsOutWith x reply o
     → (p : Outside) × (Shows p t × IsOutWith None later p) × AnswersOn number (Items reply) o p
@@ -90,26 +91,26 @@ answered_items x number reply later o t m shows w =
 
 -- ---- a request that could not be sent
 
-still_waits : (o : Outside) (number k : ℕ) (ws : List Write) (reply : List Outcome) → IsNext number o → Waits k reply o → Waits k reply (unsent o number ws)
+still_waits : (why : Loss) (o : Outside) (number k : ℕ) (ws : List Write) (reply : List Outcome) → IsNext number o → Waits k reply o → Waits k reply (unsent why o number ws)
 unfolding unsent
-still_waits o number k ws reply next w =
+still_waits why o number k ws reply next w =
     let below = at-within o.requests (from_zero k) (record { writes = w.writes; answer = Unanswered }) w.sent in
     let ne : from_zero k ≢ from_zero number = λ e. omega (arith, below, e, next) in
     record {
       writes = w.writes;
-      sent = at-update_other (from_zero number) (λ (q : Request). record { writes = writes_of q; answer = Lost }) (o.requests ++ record { writes = ws; answer = Unanswered } ∷ []) (from_zero k) ne
+      sent = at-update_other (from_zero number) (λ (q : Request). record { writes = writes_of q; answer = Lost why }) (o.requests ++ record { writes = ws; answer = Unanswered } ∷ []) (from_zero k) ne
           ∙ at-left o.requests (record { writes = ws; answer = Unanswered } ∷ []) (from_zero k) (record { writes = w.writes; answer = Unanswered }) w.sent;
       each = w.each;
     }
 
-still_out : (x : Option ℕ) (reply : List Outcome) (o : Outside) (number : ℕ) (ws : List Write) → IsNext number o → IsOutWith x reply o → IsOutWith x reply (unsent o number ws)
-still_out None reply o number ws next w = tt
-still_out (Some k) reply o number ws next w = still_waits o number k ws reply next w
+still_out : (why : Loss) (x : Option ℕ) (reply : List Outcome) (o : Outside) (number : ℕ) (ws : List Write) → IsNext number o → IsOutWith x reply o → IsOutWith x reply (unsent why o number ws)
+still_out why None reply o number ws next w = tt
+still_out why (Some k) reply o number ws next w = still_waits why o number k ws reply next w
 
-shows_unsent : (o : Outside) (number : ℕ) (ws : List Write) (t : State) → Shows o t → Shows (unsent o number ws) t
+shows_unsent : (why : Loss) (o : Outside) (number : ℕ) (ws : List Write) (t : State) → Shows o t → Shows (unsent why o number ws) t
 unfolding unsent
-shows_unsent o number ws t x = record { versions = x.versions; lists = x.lists }
+shows_unsent why o number ws t x = record { versions = x.versions; lists = x.lists }
 
-pub refused_fits : (x : Option ℕ) (reply : List Outcome) (o : Outside) (number : ℕ) (ws : List Write) (t : State) → IsNext number o → Shows o t → IsOutWith x reply o
-    → (p : Outside) × (Shows p t × IsOutWith x reply p) × ExchangesOn number ws Lost o p
-refused_fits x reply o number ws t next shows w = (unsent o number ws, (shows_unsent o number ws t shows, still_out x reply o number ws next w), unsent_on o number ws next)
+pub refused_fits : (why : Loss) (x : Option ℕ) (reply : List Outcome) (o : Outside) (number : ℕ) (ws : List Write) (t : State) → IsNext number o → Shows o t → IsOutWith x reply o
+    → (p : Outside) × (Shows p t × IsOutWith x reply p) × ExchangesOn number ws (Lost why) o p
+refused_fits why x reply o number ws t next shows w = (unsent why o number ws, (shows_unsent why o number ws t shows, still_out why x reply o number ws next w), unsent_on why o number ws next)

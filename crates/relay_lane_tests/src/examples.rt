@@ -8,7 +8,7 @@ use relay_fixtures::config::CONFIG;
 use relay_fixtures::desk::{Desk, closes, filled};
 use relay_fixtures::index_wire::{IndexWire, Way, wire_of};
 use relay_fixtures::notes::{NO_PAUSES, Notes};
-use relay_lane::{Cause, Lane, WireFault, drain, make_room, pump};
+use relay_lane::{Cause, Lane, Loss, drain, drain_next, make_room, pump};
 use std::alloc::{AllocError, Global};
 
 // The outcome of a drain: requests, pauses, reports of GaveUp after three sends and reports of the
@@ -31,7 +31,7 @@ fn reported(lane: &Lane) -> (u32, u32) {
     let mut rejected = 0u32;
     for report in lane.reports() {
         match &report.cause {
-            Cause::GaveUp { sends: 3 } => gave_up = gave_up.saturating_add(1),
+            Cause::GaveUp { sends: 3, .. } => gave_up = gave_up.saturating_add(1),
             Cause::Request { .. } => rejected = rejected.saturating_add(1),
             _ => {}
         }
@@ -176,7 +176,7 @@ const DRAINS: &[(&[&str], Way, Came)] = &[
     ),
     (
         THREE,
-        Way::FailsSend(1, WireFault::Send),
+        Way::FailsSend(1, Loss::Unreachable),
         Came {
             requests: 2,
             pauses: [1, 0, 0, 0, 0, 0, 0, 0],
@@ -195,11 +195,64 @@ fn drains(rt: HostRuntime) {
     }
 }
 
-const FAULTS: &[WireFault] = &[
-    WireFault::Send,
-    WireFault::Lost,
-    WireFault::Unreadable,
-    WireFault::Memory,
+// How many turns it takes until a closed lane holds nothing, at most 100. `None`: an allocation
+// failed.
+fn turns_of(desk: &mut Desk, wire: &mut IndexWire) -> Option<u32>
+    requires { option_to_list wire.old.flying ≡ out_of desk.old.lane.state }
+{
+    let mut pace = NO_PAUSES;
+    closes(desk);
+    let mut turns = 0u32;
+    'turns: for _ in 0..100 {
+        if !takes_turn(desk, wire, &mut pace)? {
+            return Some(turns);
+        }
+        turns = turns.saturating_add(1);
+    }
+    None
+}
+
+// One turn of a closed lane, and whether it held something. `None`: an allocation failed, or it is
+// not closed.
+fn takes_turn(desk: &mut Desk, wire: &mut IndexWire, pace: &mut Notes) -> Option<bool>
+    requires { option_to_list wire.old.flying ≡ out_of desk.old.lane.state }
+    ensures { option_to_list wire.new.flying ≡ out_of desk.new.lane.state }
+{
+    if !desk.lane.closed() {
+        return None;
+    }
+    drain_next(&mut desk.lane, wire, pace).ok()
+}
+
+// A request that is sent is one turn, its answer another, and a pause a third; one that could not be
+// sent is one turn with its loss.
+const TURNS: &[(&[&str], Way, u32)] = &[
+    (&[], Way::Runs, 0),
+    (ONE, Way::Runs, 6),
+    (THREE, Way::Runs, 2),
+    (THREE, Way::Loses, 8),
+    (THREE, Way::FailsSend(1, Loss::Unreachable), 4),
+];
+
+#[test]
+fn drains_turn_by_turn(rt: HostRuntime) {
+    let alloc = rt.alloc();
+    for (ids, way, wanted) in TURNS {
+        let found = match holding(alloc, *ids) {
+            Some(mut desk) => turns_of(&mut desk, &mut wire_of(alloc, *way)),
+            None => None,
+        };
+        assert!(rt; found == Some(*wanted), "{way:?} {found:?}");
+    }
+}
+
+const FAULTS: &[Loss] = &[
+    Loss::Refused,
+    Loss::Unreachable,
+    Loss::TimedOut,
+    Loss::Closed,
+    Loss::Unreadable,
+    Loss::Memory,
 ];
 
 // The outcome for three operations of one document if one request was not sent.
@@ -252,12 +305,12 @@ const PUMPS: &[(&[&str], Way, (u64, u64, u32))] = &[
     (&["1", "1", "1"], Way::Runs, (3, 3, 0)),
     (
         &["1", "1", "2"],
-        Way::FailsSend(1, WireFault::Send),
+        Way::FailsSend(1, Loss::Unreachable),
         (1, 1, 3),
     ),
     (
         &["1", "1", "2"],
-        Way::FailsReply(2, WireFault::Lost),
+        Way::FailsReply(2, Loss::Closed),
         (2, 2, 1),
     ),
 ];
@@ -293,11 +346,7 @@ const ROOMS: &[(&[&str], Way, (u32, u64, u64))] = &[
     (&["1", "1", "2"], Way::Runs, (3, 0, 0)),
     (TEN_OF_ONE, Way::Runs, (9, 1, 0)),
     (TEN_OF_ONE, Way::Loses, (9, 3, 3)),
-    (
-        TEN_OF_TEN,
-        Way::FailsReply(1, WireFault::Unreadable),
-        (0, 2, 1),
-    ),
+    (TEN_OF_TEN, Way::FailsReply(1, Loss::Unreadable), (0, 2, 1)),
 ];
 
 #[test]

@@ -7,7 +7,7 @@ use relay_action::Write;
 use relay_fixtures::config::CONFIG;
 use relay_fixtures::desk::{Desk, closes, desk_of, puts};
 use relay_fixtures::notes::NO_PAUSES;
-use relay_lane::{Cause, Lane, Wire, WireFault, WireReply, drain};
+use relay_lane::{Cause, Lane, Loss, Wire, WireReply, drain};
 use std::test::Fail;
 
 #[derive(Drop)]
@@ -26,17 +26,17 @@ impl Wire for Losing {
 
     ghost fits = { λ w o. IsOut w.flying o };
 
-    fn send(&mut self, number: u64, _writes: &[Write]) -> Result<(), WireFault> {
+    fn send(&mut self, number: u64, _writes: &[Write]) -> Result<(), Loss> {
         if self.flying.is_some() {
-            return Err(WireFault::Send);
+            return Err(Loss::Unreachable);
         }
         self.flying = Some(number);
         Ok(())
     }
 
-    fn receive(&mut self, _number: u64) -> Result<WireReply, WireFault> {
+    fn receive(&mut self, _number: u64) -> Result<WireReply, Loss> {
         self.flying = None;
-        Err(WireFault::Lost)
+        Err(Loss::Closed)
     }
 }
 
@@ -51,7 +51,7 @@ fn drains(desk: &mut Desk, wire: &mut Losing) -> bool
 // Whether each report says that an operation was given up after three sends.
 fn gave_up(lane: &Lane) -> bool {
     for report in lane.reports() {
-        if !matches!(&report.cause, Cause::GaveUp { sends: 3 }) {
+        if !matches!(&report.cause, Cause::GaveUp { sends: 3, .. }) {
             return false;
         }
     }

@@ -10,7 +10,7 @@ use relay_fixtures::index_wire::{IndexWire, Way, wire_of};
 use relay_fixtures::keys::key_of;
 use relay_fixtures::notes::NO_PAUSES;
 use relay_index::Index;
-use relay_lane::{Lane, RelayConfig, drain, make_room, pump, send_ready, settle_next};
+use relay_lane::{Lane, RelayConfig, drain, drain_next, make_room, pump, send_ready, settle_next};
 use std::alloc::{AllocError, Global};
 
 /// Room for the first three operations only.
@@ -125,6 +125,28 @@ fn makes_room(lane: &mut Lane, wire: &mut IndexWire) -> bool
     }
 }
 
+// One turn of a closed lane that holds something, by a second call if the first was refused and left
+// the lane as it was.
+fn turns(lane: &mut Lane, wire: &mut IndexWire) -> bool
+    requires { option_to_list wire.old.flying ≡ out_of lane.old.state }
+    ensures { option_to_list wire.new.flying ≡ out_of lane.new.state }
+{
+    let (held, totals) = (lane.held(), lane.totals());
+    let mut pace = NO_PAUSES;
+    if !lane.closed() {
+        return false;
+    }
+    match drain_next(lane, wire, &mut pace) {
+        Ok(some) => some,
+        Err(AllocError) => {
+            lane.held() == held
+                && lane.totals() == totals
+                && lane.closed()
+                && drain_next(lane, wire, &mut pace) == Ok(true)
+        }
+    }
+}
+
 // Drains a closed lane, by a second call if the first was refused.
 fn drains(lane: &mut Lane, wire: &mut IndexWire) -> bool
     requires { option_to_list wire.old.flying ≡ out_of lane.old.state }
@@ -166,6 +188,7 @@ fn works(alloc: Global, by_pump: bool) -> Option<bool> {
         && makes_room(&mut desk.lane, &mut wire)
         && puts_fourth(alloc, &mut desk)
         && closes(&mut desk)
+        && turns(&mut desk.lane, &mut wire)
         && drains(&mut desk.lane, &mut wire);
     let totals = desk.lane.totals();
     let settled = totals.applied.saturating_add(totals.already);

@@ -11,7 +11,7 @@ use relay_fixtures::desk::{Desk, closes, desk_of, puts};
 use relay_fixtures::notes::NO_PAUSES;
 use relay_fixtures::runs::run_all;
 use relay_index::Index;
-use relay_lane::{Wire, WireFault, WireReply, drain};
+use relay_lane::{Loss, Wire, WireReply, drain};
 use relay_results::Outcome;
 use std::alloc::Global;
 use std::mem;
@@ -38,9 +38,9 @@ impl Wire for Telling {
 
     ghost fits = { λ w o. Shows o w.index × IsOutWith w.flying w.reply.items o };
 
-    fn send(&mut self, number: u64, writes: &[Write]) -> Result<(), WireFault> {
+    fn send(&mut self, number: u64, writes: &[Write]) -> Result<(), Loss> {
         if self.flying.is_some() {
-            return Err(WireFault::Send);
+            return Err(Loss::Unreachable);
         }
         self.sends = self.sends.saturating_add(1);
         match run_all(self.alloc, &mut self.index, writes) {
@@ -49,15 +49,15 @@ impl Wire for Telling {
                 self.flying = Some(number);
                 Ok(())
             }
-            Err(_) => Err(WireFault::Memory),
+            Err(_) => Err(Loss::Memory),
         }
     }
 
-    fn receive(&mut self, _number: u64) -> Result<WireReply, WireFault> {
+    fn receive(&mut self, _number: u64) -> Result<WireReply, Loss> {
         self.flying = None;
         let entries = mem::replace(&mut self.reply, Vec::new(self.alloc));
         if self.sends % 2 == 0 {
-            return Err(WireFault::Lost);
+            return Err(Loss::Closed);
         }
         Ok(WireReply::Items(entries))
     }

@@ -1,7 +1,7 @@
 use Rattle.std.proofs.Common.{◌≡◌, ◌+◌, ◌≤◌, length}
 use Rattle.relay_lane.specs.Out.{out_of}
-use Rattle.relay_lane.specs.Turns.{Worked, Stays, collects, Passed, sends_left}
-use Rattle.relay_lane.specs.Delivers.{Delivers}
+use Rattle.relay_lane.specs.Turns.{Stays, collects, Passed, sends_left}
+use Rattle.relay_lane.specs.Delivers.{WorkedOn}
 use Rattle.relay_lane.proofs.draining.collect.Given as goal
 
 abbrev pub invariant-answers : goal.invariant-answers
@@ -11,11 +11,10 @@ invariant-answers g l = record {
   few : length l.fn.lane.state.core.flying ≤ 4294967295;
   requests : l.lane.state.core.requests ≡ l.fn.lane.state.core.requests;
   left : sends_left l.lane.state ≤ sends_left l.fn.lane.state;
-  worked : Worked collects l.fn.lane.state l.lane.state;
+  worked : WorkedOn (g.W.Wire.describes l.fn.wire) g.W.Wire.fits collects l.fn.wire l.wire l.fn.lane.state l.lane.state;
   passed : Passed l.fn.lane.state.core.clock l.lane.state.core.clock (g.P.Pace.paused l.fn.pace) (g.P.Pace.paused l.pace);
   out : g.W.Wire.out l.wire ≡ out_of l.lane.state;
   describes : g.W.Wire.describes l.wire ≡ g.W.Wire.describes l.fn.wire;
-  delivers : Delivers (g.W.Wire.describes l.fn.wire) g.W.Wire.fits l.fn.wire l.wire l.fn.lane.state l.lane.state;
 }
 
 abbrev pub decreases-answers : goal.decreases-answers

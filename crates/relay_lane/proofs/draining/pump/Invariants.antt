@@ -1,7 +1,7 @@
 use Rattle.std.proofs.Common.{◌≡◌, ◌+◌, ◌*◌, ◌≤◌, length}
 use Rattle.relay_lane.specs.Out.{out_of}
-use Rattle.relay_lane.specs.Turns.{Worked, Stays, pumps, Passed, sends_left}
-use Rattle.relay_lane.specs.Delivers.{Delivers}
+use Rattle.relay_lane.specs.Turns.{Stays, pumps, Passed, sends_left}
+use Rattle.relay_lane.specs.Delivers.{WorkedOn}
 use Rattle.relay_lane.proofs.draining.pump.Given as goal
 
 abbrev pub invariant-turns : goal.invariant-turns
@@ -10,11 +10,10 @@ invariant-turns g l = record {
   sent : l.lane.state.core.requests ≡ l.fn.lane.state.core.requests + l.sent;
   left : l.sent + sends_left l.lane.state ≤ sends_left l.fn.lane.state;
   few : sends_left l.fn.lane.state ≤ 18446744073709551615;
-  worked : Worked pumps l.fn.lane.state l.lane.state;
+  worked : WorkedOn (g.W.Wire.describes l.fn.wire) g.W.Wire.fits pumps l.fn.wire l.wire l.fn.lane.state l.lane.state;
   passed : Passed l.fn.lane.state.core.clock l.lane.state.core.clock (g.P.Pace.paused l.fn.pace) (g.P.Pace.paused l.pace);
   out : g.W.Wire.out l.wire ≡ out_of l.lane.state;
   describes : g.W.Wire.describes l.wire ≡ g.W.Wire.describes l.fn.wire;
-  delivers : Delivers (g.W.Wire.describes l.fn.wire) g.W.Wire.fits l.fn.wire l.wire l.fn.lane.state l.lane.state;
 }
 
 abbrev pub decreases-turns : goal.decreases-turns

@@ -1,5 +1,6 @@
-use Rattle.std.proofs.Common.{◌≡◌, true, sym, ap, ◌∙◌, subst}
+use Rattle.std.proofs.Common.{◌≡◌, ◌+◌, [], ◌∷◌, true, sym, ap, ◌∙◌, subst}
 use Rattle.relay_results.specs.Words.{Mem}
+use Rattle.relay_delivery.specs.Reach.{Ticks, Answers}
 use Rattle.relay_core.specs.State.{State, IsLane, after_answer_to, is_flying}
 use Rattle.relay_lane.specs.Delivers.{Delivers}
 use Rattle.relay_lane.specs.Out.{out_of}
@@ -8,7 +9,7 @@ use Rattle.relay_lane.specs.Wires.{answer_of, without}
 use Rattle.relay_lane.proofs.Out.{oldest_is, oldest_number, oldest_flies, oldest_out, out_answered}
 use Rattle.relay_lane.proofs.Sending.{answers}
 use Rattle.relay_lane.proofs.Stepping.{passed_same}
-use Rattle.relay_lane.proofs.Carrying.{delivers_answer, delivers_after}
+use Rattle.relay_lane.proofs.Carrying.{delivers_answer}
 use Rattle.relay_lane.proofs.turn.settle_oldest.Goals as goal
 
 pub receive-answer-requires : goal.receive-answer-requires
@@ -27,14 +28,21 @@ returns-in-Some-clause-turn g c =
     let s = c.args.lane.now.state in
     let n = c.pass.ensures.ticked.ticks in
     let o = oldest_is s c.in-Some.number (sym c.oldest.ensures ∙ c.in-Some.is) in
+    let number = oldest_number s c.totals.ensures.lane c.in-Some.number o in
     let a = answer_of c.receive-answer.result in
+    let d = g.W.Wire.describes c.args.wire.now in
+    let v = c.args.wire.now in
+    let w = c.receive-answer.new.self in
+    let settled = c.settle_now.ensures.state ∙ ap (λ t. after_answer_to t c.in-Some.number a) c.pass.ensures.ticked.reached in
     record {
       ticks = n;
       answer = a;
       lane = subst IsLane c.pass.ensures.ticked.reached c.totals-in-Some.ensures.lane;
       answers = answers c.receive-answer.result;
-      reached = c.settle_now.ensures.state ∙ ap (λ t. after_answer_to t c.in-Some.number a) c.pass.ensures.ticked.reached
-          ∙ sym (ap (λ k. after_answer_to (after_ticks n s) k a) (oldest_number s c.totals.ensures.lane c.in-Some.number o));
+      reached = settled ∙ sym (ap (λ k. after_answer_to (after_ticks n s) k a) number);
+      delivers = subst (λ k. Delivers d g.W.Wire.fits v w s c.settle_now.new.lane.state (Ticks (s.core.clock + n) ∷ Answers k a ∷ [])) (sym number)
+          (subst (λ t. Delivers d g.W.Wire.fits v w s t (Ticks (s.core.clock + n) ∷ Answers c.in-Some.number a ∷ [])) (sym settled)
+          (delivers_answer d g.W.Wire.fits v w s n c.in-Some.number a (oldest_flies s c.totals.ensures.lane c.in-Some.number o) c.receive-answer.ensures.outside));
     }
 
 pub returns-in-Some-clause-passed : goal.returns-in-Some-clause-passed
@@ -50,16 +58,3 @@ returns-in-Some-clause-out g c =
     let a = answer_of c.receive-answer.result in
     c.receive-answer.ensures.out ∙ ap (without c.in-Some.number) c.requires.out ∙ out_answered s c.totals.ensures.lane c.in-Some.number o a
     ∙ ap (λ t. out_of (after_answer_to t c.in-Some.number a)) (sym c.pass.ensures.ticked.reached) ∙ ap out_of (sym c.settle_now.ensures.state)
-
-pub returns-in-Some-clause-delivers : goal.returns-in-Some-clause-delivers
-returns-in-Some-clause-delivers g c =
-    let s = c.args.lane.now.state in
-    let n = c.pass.ensures.ticked.ticks in
-    let o = oldest_is s c.in-Some.number (sym c.oldest.ensures ∙ c.in-Some.is) in
-    let a = answer_of c.receive-answer.result in
-    let d = g.W.Wire.describes c.args.wire.now in
-    let v = c.args.wire.now in
-    let w = c.receive-answer.new.self in
-    subst (λ t. Delivers d g.W.Wire.fits v w s t) (sym (c.settle_now.ensures.state ∙ ap (λ t. after_answer_to t c.in-Some.number a) c.pass.ensures.ticked.reached))
-    (delivers_after d g.W.Wire.fits v w n s (after_answer_to (after_ticks n s) c.in-Some.number a)
-    (delivers_answer d g.W.Wire.fits v w (after_ticks n s) c.in-Some.number a (oldest_flies s c.totals.ensures.lane c.in-Some.number o) c.receive-answer.ensures.outside))
