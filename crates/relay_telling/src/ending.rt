@@ -49,12 +49,18 @@ fn copy_cause(cause: &Cause) -> Result<Cause, AllocError>
             kind: kind.copy()?,
             reason: copy_text(reason)?,
         }),
-        Cause::Request { status } => Ok(Cause::Request { status: *status }),
+        Cause::Request { status, reason } => Ok(Cause::Request {
+            status: *status,
+            reason: copy_text(reason)?,
+        }),
         Cause::Conflict { stored, reason } => Ok(Cause::Conflict {
             stored: *stored,
             reason: copy_text(reason)?,
         }),
-        Cause::GaveUp { sends } => Ok(Cause::GaveUp { sends: *sends }),
+        Cause::GaveUp { sends, last } => Ok(Cause::GaveUp {
+            sends: *sends,
+            last: *last,
+        }),
         Cause::Spent => Ok(Cause::Spent),
     }
 }

@@ -27,7 +27,10 @@ fn report_of(alloc: Global, producer: u32, number: u64) -> Option<Report> {
     Some(Report {
         name: name_of(producer, number),
         key: DocKey::new(alloc, "books", "emma").ok()?,
-        cause: Cause::Request { status: 401 },
+        cause: Cause::Request {
+            status: 401,
+            reason: None,
+        },
     })
 }
 

@@ -45,7 +45,10 @@ fn report_of(alloc: Global) -> Option<Report> {
             number: 1,
         },
         key: keys::key_of(alloc, "books", "an id of which a copy has to be allocated")?,
-        cause: Cause::Request { status: 401 },
+        cause: Cause::Request {
+            status: 401,
+            reason: None,
+        },
     })
 }
 

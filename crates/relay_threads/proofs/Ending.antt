@@ -8,23 +8,22 @@ use Rattle.relay_queue.specs.Messages.{mail_of, HasDone}
 use Rattle.relay_core.specs.declared.config.RelayConfig.{RelayConfig}
 use Rattle.relay_core.specs.State.{State, all_closed, oldest, without_successes}
 use Rattle.relay_lane.specs.Turns.{Turn, Sends, Fails, Settles, Pauses, after_answer, after_ticks, after_turns, AllMayTurn, Worked, Stays, collects}
-use Rattle.relay_lane.specs.Delivers.{Delivers}
+use Rattle.relay_lane.specs.Delivers.{WorkedOn}
 use Rattle.relay_lane.proofs.Sends.{none_left}
 use Rattle.relay_threads.specs.declared.lane_end.LaneEndKind.{LaneEndKind}
 use Rattle.relay_threads.specs.declared.lane_end.LaneEndKind.TheVariants.{Finished, Memory, Gone}
 use Rattle.relay_threads.specs.Course.{KnowsOpen, OneIsOpen, HasHeard, Course, EndsAs}
 use Rattle.relay_threads.specs.Told.{Told, HasTold, EndsTold}
-use Rattle.relay_threads.proofs.ToldOnce.{told_of_all, told_truly, explained_truly, stated_truly}
-use Rattle.relay_threads.specs.Steps.{KeepsOn}
+use Rattle.relay_threads.proofs.ToldOnce.{told_of_all, explained_truly, stated_truly, described_truly}
 use Rattle.relay_threads.proofs.Hearing.{heard_all, all_done, done_more, one_open}
-use Rattle.relay_threads.proofs.Keeping.{course_on, works, forgets}
+use Rattle.relay_threads.proofs.Keeping.{works, marks}
 
 -- ---- what is in flight is settled
 
 turns_none : (ts : List Turn) (s : State) → AllMayTurn collects ts s → s.core.held ≡ [] → (after_turns ts s).core.held ≡ []
 turns_none [] s may none = none
 turns_none (Sends n ∷ ts) s may none = absurd (let k = may.0 in cc)
-turns_none (Fails n ∷ ts) s may none = absurd (let k = may.0 in cc)
+turns_none (Fails why n ∷ ts) s may none = absurd (let k = may.0 in cc)
 turns_none (Settles n a ∷ ts) s may none = turns_none ts (after_answer a (after_ticks n s)) may.2 (none_left (after_ticks n s) (unwrap_or (oldest s) 0) a none)
 turns_none (Pauses n ∷ ts) s may none = absurd (let k = may.0 in cc)
 
@@ -55,39 +54,38 @@ module _ {S : Type 0} (d : Bool) (fits : S → Outside → Type 0) where
     none_held = λ f. absurd (early f);
   }
 
-  -- what is forgotten at the end is no part of it
-  pub ends_forgotten : (start w : S) (c : RelayConfig) (taken : List Mail) (kind : LaneEndKind) (s t : State) → t ≡ without_successes s → EndsAs d fits start w c taken kind s → EndsAs d fits start w c taken kind t
-  ends_forgotten start w c taken kind s t e k = subst (λ z. EndsAs d fits start w c taken kind z) (sym e) (record {
-    messages = k.messages;
-    heard = k.heard;
-    course = forgets d fits w s (without_successes s) k.messages (λ i. without_successes s) start c k.course;
-    closed = k.closed;
-    not_closed = k.not_closed;
-    none_held = k.none_held;
-  })
-
   -- it drained
-  pub ends_drained : (start v w : S) (c : RelayConfig) (taken : List Mail) (kind : LaneEndKind) (s t : State) (e : Bool) → e ≡ d → Course d fits start v c taken s → KeepsOn e fits v w s t taken taken
-      → all_closed s ≡ true → t.closed ≡ s.closed → (kind ≡ Finished → t.core.held ≡ []) → kind ≢ Gone → EndsAs d fits start w c taken kind t
-  ends_drained start v w c taken kind s t e same k x closed stays none early = record {
+  pub ends_drained : (start w : S) (c : RelayConfig) (taken : List Mail) (kind : LaneEndKind) (s t : State) → Course d fits start w c taken t → all_closed s ≡ true → t.closed ≡ s.closed → (kind ≡ Finished → t.core.held ≡ []) → kind ≢ Gone → EndsAs d fits start w c taken kind t
+  ends_drained start w c taken kind s t course closed stays none early = record {
     messages = taken;
     heard = heard_all kind taken;
-    course = course_on d e fits start v w c s t taken taken same k x;
+    course = course;
     closed = λ f. ap (list_all (λ (b : Bool). b)) stays ∙ closed;
     not_closed = λ g. absurd (early g);
     none_held = none;
   }
 
+  -- what is forgotten at the end is no part of it
+  pub ends_forgotten : (start w : S) (c : RelayConfig) (taken : List Mail) (kind : LaneEndKind) (s t : State) → t ≡ without_successes s → EndsAs d fits start w c taken kind s → EndsAs d fits start w c taken kind t
+  ends_forgotten start w c taken kind s t e k = subst (λ z. EndsAs d fits start w c taken kind z) (sym e) (record {
+    messages = k.messages;
+    heard = k.heard;
+    course = marks d fits start w s c k.messages s.mark [] k.course;
+    closed = k.closed;
+    not_closed = k.not_closed;
+    none_held = k.none_held;
+  })
+
   -- what was in flight is settled then
   pub ends_collected : (start v w : S) (c : RelayConfig) (taken : List Mail) (kind : LaneEndKind) (s t : State) (e : Bool) → e ≡ d → EndsAs d fits start v c taken kind s
-      → Worked collects s t → Stays s t → Delivers e fits v w s t → EndsAs d fits start w c taken kind t
-  ends_collected start v w c taken kind s t e same x worked stays delivers = record {
+      → WorkedOn e fits collects v w s t → Stays s t → EndsAs d fits start w c taken kind t
+  ends_collected start v w c taken kind s t e same x worked stays = record {
     messages = x.messages;
     heard = x.heard;
-    course = course_on d e fits start v w c s t x.messages x.messages same x.course (works e fits collects v w s t x.messages worked stays delivers);
+    course = works d fits collects start v w s t c x.messages (subst (λ z. WorkedOn z fits collects v w s t) same worked) stays x.course;
     closed = λ f. ap (list_all (λ (b : Bool). b)) stays.closed ∙ x.closed f;
     not_closed = x.not_closed;
-    none_held = λ f. collected_none s t worked (x.none_held f);
+    none_held = λ f. collected_none s t worked.worked (x.none_held f);
   }
 
   -- if it finished, it took each sender's Done
@@ -125,21 +123,16 @@ finished_as kind kind' (Ok x) ok err f = sym ok ∙ f
 finished_as kind kind' (Err x) ok err f = absurd (err.0 f)
 
 pub told_at_the_end : {S A E : Type 0} (d : Bool) (fits : S → Outside → Type 0) (first last : S) (c : RelayConfig) (start now : ℕ → Option Told) (number : ℕ) (s t : State) (taken heard : List Mail) (kind kind' : LaneEndKind) (r : Result A E)
-    → t ≡ without_successes s → HasHeard kind taken heard → Course d fits first last c heard s → HasTold start now number t heard
+    → t ≡ without_successes s → HasHeard kind taken heard → HasTold d fits first last c start now number t heard
     → OnErr r ((kind' ≢ Finished) × (kind' ≡ Gone → kind ≡ Gone)) → (kind ≡ Memory → kind' ≡ Memory) → OnOk r (length t.core.reports ≤ number) → EndsTold d fits first last start now c taken kind' t
-told_at_the_end d fits first last c start now number s t taken heard kind kind' r none h course x err memory all =
-    let ended : Course d fits first last c heard t = forgets d fits last s t heard none first c course in
-    record {
-      messages = heard;
-      heard = heard_as kind kind' taken heard memory h;
-      course = ended;
-      number = number;
-      has_told = x;
-      none_noted = ap (λ (z : State). z.successes) none;
-      all_reported = λ f. told_of_all start now number t heard x (finished_ok kind kind' r (length t.core.reports ≤ number) err all f);
-      explained = λ distinct o p begins explains. explained_truly start now number t heard x distinct o p begins explains;
-      explained_if_stated = λ distinct o p begins explains states. stated_truly start now number t heard x distinct o p begins explains states;
-      described = λ distinct is o f opening below.
-          let g = ended.delivers is o f opening below in
-          record { goes_on = g; truly = told_truly start now number t heard x distinct g.outside g.lane };
-    }
+told_at_the_end d fits first last c start now number s t taken heard kind kind' r none h x err memory all = record {
+  messages = heard;
+  heard = heard_as kind kind' taken heard memory h;
+  number = number;
+  has_told = x;
+  none_noted = ap (λ (z : State). z.successes) none;
+  all_reported = λ f. told_of_all d fits first last c start now number t heard x (finished_ok kind kind' r (length t.core.reports ≤ number) err all f);
+  explained = λ distinct o p begins explains. explained_truly d fits first last c start now number t heard x distinct o p begins explains;
+  explained_if_stated = λ distinct o p begins explains states. stated_truly d fits first last c start now number t heard x distinct o p begins explains states;
+  described = λ distinct is o f opening below. described_truly d fits first last c start now number t heard x distinct o opening below (x.course.delivers is o f opening below);
+}

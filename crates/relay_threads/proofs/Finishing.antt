@@ -9,7 +9,7 @@ use Rattle.relay_results.specs.Outside.{Outside, IsOpening}
 use Rattle.relay_delivery.specs.Delivery.{HasDistinctNames, IsSound, IsComplete, applied_ops}
 use Rattle.relay_delivery.specs.Machine.{Config, Report, first_in}
 use Rattle.relay_delivery.specs.Explained.{Begins, Explains}
-use Rattle.relay_delivery.specs.Reach.{Reached}
+use Rattle.relay_delivery.specs.Reach.{Call, Reached}
 use Rattle.relay_delivery.proofs.Explained.{explained_sound, explained_complete}
 use Rattle.relay_delivery.specs.Stating.{BeginsBeside, StatesVersions}
 use Rattle.relay_delivery.proofs.Stating.{explained_sound_if_stated, explained_complete_if_stated}
@@ -24,7 +24,6 @@ use Rattle.relay_results.specs.Words.{count}
 use Rattle.relay_results.proofs.Lists.{and_left, and_right, Mem-left}
 use Rattle.relay_delivery.specs.Lane.{held_of, fresh_state}
 use Rattle.relay_core.specs.Endings.{is_held_as, is_success_as, is_report_as}
-use Rattle.relay_lane.specs.Once.{is_op_as}
 use Rattle.relay_producer.specs.States.{ClosedProducerState, ClosedControlState}
 use Rattle.relay_lane.specs.Delivers.{GoesOn}
 use Rattle.relay_producer.specs.declared.ends.ClosedEnd.{ClosedEnd}
@@ -145,14 +144,15 @@ module _ {W : Type 0} (describes : W → Bool) (fits : W → Outside → Type 0)
     not_memory kind f e = let k : Finished ≡ Memory = sym f ∙ e in absurd (cc)
 
   -- delivery, as a lane's end has it, is that of its summary
-  carries : (ops : List Op) (e : LaneEnd W) (s : LaneSummary W) (o : Outside) → e.lane.state.config ≡ c → e.lane.state.core.held ≡ [] → SumsUp e s → HasDistinctNames ops → GoesOn fits e.wire e.lane.state ops o → Carries describes fits c ops s o
-  carries ops e s o is none sum distinct g =
+  carries : (ops : List Op) (calls : List Call) (e : LaneEnd W) (s : LaneSummary W) (o : Outside) → e.lane.state.config ≡ c → e.lane.state.core.held ≡ [] → SumsUp e s → HasDistinctNames ops → GoesOn fits e.wire e.lane.state ops calls o → Carries describes fits c ops calls s o
+  carries ops calls e s o is none sum distinct g =
       let conf : e.lane.state.core.config ≡ config_of c = sum.lane.config ∙ ap config_of is in
       let reports = sum.reports in
       record {
         outside = g.outside;
         fitting = subst (λ w. fits w g.outside) (sym sum.wire) g.fitting;
         continues = g.continues;
+        explains = g.explains;
         requests = sum.requests ∙ g.lane.is_of.requests ∙ ap (λ (x : Outside). length x.requests) g.lane.outside;
         applied = sum.applied ∙ g.delivered.applied;
         already = sum.already ∙ g.delivered.already;
@@ -196,7 +196,8 @@ module _ {W : Type 0} (describes : W → Bool) (fits : W → Outside → Type 0)
       let long = length-map s.reports.items report_of in
       let reports = ap length sum.reports in
       let taken : s.taken ≡ length (puts_of e.taken.taken) = sum.taken ∙ k.taken ∙ ap (λ m. length (puts_of m)) (sym all) in
-      let reached : Reached e.lane.state.core (puts_of e.taken.taken) = subst (λ m. Reached e.lane.state.core (puts_of m)) (sym all) k.reached.core in
+      let calls = k.reached.core in
+      let reached : Reached e.lane.state.core (puts_of e.taken.taken) = record { calls = calls.calls; may = calls.may; took = calls.took ∙ ap puts_of (sym all); reached = calls.reached } in
       record {
         messages = e.taken.taken;
         met = met;
@@ -217,8 +218,8 @@ module _ {W : Type 0} (describes : W → Bool) (fits : W → Outside → Type 0)
         explained = λ distinct o p opening below x. explains (puts_of e.taken.taken) e s o p k.config none sum distinct reached opening below x;
         explained_if_stated = λ distinct o p begins x states. explains_if_stated (puts_of e.taken.taken) e s o p k.config none sum distinct reached begins x states;
         delivers = λ distinct is o fit opening below.
-            carries (puts_of e.taken.taken) e s o k.config none sum distinct
-            (subst (λ m. GoesOn fits e.wire e.lane.state (puts_of m) o) (sym all) (k.delivers is o fit opening below));
+            carries (puts_of e.taken.taken) calls.calls e s o k.config none sum distinct
+            (subst (λ m. GoesOn fits e.wire e.lane.state (puts_of m) calls.calls o) (sym all) (k.delivers is o fit opening below));
       }
 
   -- ---- all lanes
@@ -264,11 +265,11 @@ module _ {W T : Type 0} (describes : W → Bool) (fits : W → Outside → Type 
       let core : e.lane.state.core.config ≡ config_of c = sum.lane.config ∙ ap config_of is in
       subst (λ (z : Config × List Report). IsToldTruly z.0 ops applied z.1 p) (λ i. (core i, all i)) x
 
-  carries_truly : (ops : List Op) (applied : List Success) (reported : List Report) (e : LaneEnd W) (s : LaneSummary W) (o : Outside) → e.lane.state.config ≡ c → e.lane.state.core.held ≡ [] → SumsUp e s → HasDistinctNames ops → reported ≡ map report_of s.reports.items
-      → GoesOnTruly fits e.wire e.lane.state ops applied reported o → CarriesTruly describes fits told c ops applied s o
+  carries_truly : (ops : List Op) (calls : List Call) (applied : List Success) (reported : List Report) (e : LaneEnd W) (s : LaneSummary W) (o : Outside) → e.lane.state.config ≡ c → e.lane.state.core.held ≡ [] → SumsUp e s → HasDistinctNames ops → reported ≡ map report_of s.reports.items
+      → GoesOnTruly fits e.wire e.lane.state ops calls applied reported o → CarriesTruly describes fits told c ops calls applied s o
   unfolding carries
-  carries_truly ops applied reported e s o is none sum distinct all g = record {
-    carries = carries describes fits c ops e s o is none sum distinct g.goes_on;
+  carries_truly ops calls applied reported e s o is none sum distinct all g = record {
+    carries = carries describes fits c ops calls e s o is none sum distinct g.goes_on;
     truly = truly ops applied reported e s g.goes_on.outside is sum all g.truly;
   }
 
@@ -276,9 +277,10 @@ module _ {W T : Type 0} (describes : W → Bool) (fits : W → Outside → Type 
   one_told rows lane q w e first last s f on k met sum =
       let none = on.ends.none_held f in
       let all = heard_whole describes fits c e.kind e.taken.taken k.messages f k.heard in
-      let conf : e.lane.state.config ≡ c = k.course.config in
+      let conf : e.lane.state.config ≡ c = k.has_told.course.config in
       let core : e.lane.state.core.config ≡ config_of c = sum.lane.config ∙ ap config_of conf in
-      let h = k.has_told in
+      let h = k.has_told.telling in
+      let calls = k.has_told.course.reached.core in
       let ops = puts_of k.messages in
       let reports : h.reported ≡ map report_of s.reports.items = k.all_reported f ∙ sym sum.reports in
       let begins : (o : Outside) → BeginsBeside (config_of c) o → BeginsBeside e.lane.state.core.config o = λ o b. subst (λ g. BeginsBeside g o) (sym core) b in
@@ -296,7 +298,7 @@ module _ {W T : Type 0} (describes : W → Bool) (fits : W → Outside → Type 
         versions = λ y m. subst (λ g. IsOfTaken g ops y) core (h.versions y (Mem-left y h.applied e.lane.state.successes m));
         reached = record {
           state = e.lane.state.core;
-          reached = h.reached.core;
+          reached = calls;
           config = core;
           none_held = none;
           taken = sum.taken;
@@ -305,13 +307,13 @@ module _ {W T : Type 0} (describes : W → Bool) (fits : W → Outside → Type 
           requests = sum.requests;
           reports = sum.reports;
         };
-        noted = ap (λ g. noted_in h.reached.core.calls (fresh_state g)) (sym core) ∙ h.noted ∙ ap (λ xs. h.applied ++ xs) k.none_noted ∙ append-nil h.applied;
+        noted = ap (λ g. noted_in calls.calls (fresh_state g)) (sym core) ∙ h.noted ∙ ap (λ xs. h.applied ++ xs) k.none_noted ∙ append-nil h.applied;
         explained = λ distinct o p opening below explains.
             let lowest : e.lane.state.core.config.first ≡ first_in c.epoch = ap (λ (g : Config). g.first) core in
             truly ops h.applied h.reported e s p conf sum reports
             (k.explained distinct o p (record { opening = opening; below = λ d u at. subst (λ a. u < a) (sym lowest) (below d u at) }) explains);
         explained_if_stated = λ distinct o p b explains states. truly ops h.applied h.reported e s p conf sum reports (k.explained_if_stated distinct o p (begins o b) explains states);
-        described = λ distinct is o fit opening below. carries_truly ops h.applied h.reported e s o conf none sum distinct reports (k.described distinct is o fit opening below);
+        described = λ distinct is o fit opening below. carries_truly ops calls.calls h.applied h.reported e s o conf none sum distinct reports (k.described distinct is o fit opening below);
       }
 
   pub all_told_to : (rows : List (List ClosedEnd)) (lane : ℕ) (qs : List Queue) (ws : List W) (fs : List T) (es : List (LaneEnd W)) (ts : List T) (ss : List (LaneSummary W)) → AllEndOn describes fits c qs ws es → AllKinds describes fits c es → AllEndTold ws fs es ts → AllSumUp rows lane es ss

@@ -2,6 +2,7 @@ pub mod Totals
 pub mod Hearing
 pub mod Noting
 pub mod Keeping
+pub mod Answering
 pub mod Ending
 pub mod Popping
 pub mod Joining
@@ -14,3 +15,4 @@ pub mod Delivering
 pub mod Together
 mod Results
 pub mod ToldOnce
+pub mod Draining

@@ -63,7 +63,7 @@ answered_totals s number a t = settled_totals s.core (from_zero number) (writes_
 
 turn_totals : (t : Turn) (s : State) → HasTotals s → HasTotals (after_turn t s)
 turn_totals (Sends n) s h = asked_totals s (next_batch s) h
-turn_totals (Fails n) s h = answered_totals (after_ticks n (after_send s)) s.flights.next Lost (asked_totals s (next_batch s) h)
+turn_totals (Fails why n) s h = answered_totals (after_ticks n (after_send s)) s.flights.next (Lost why) (asked_totals s (next_batch s) h)
 turn_totals (Settles n a) s h = answered_totals (after_ticks n s) (unwrap_or (oldest s) 0) a h
 turn_totals (Pauses n) s h = h
 

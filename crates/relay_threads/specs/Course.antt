@@ -7,13 +7,14 @@ use Rattle.relay_results.specs.Documents.{Document}
 use Rattle.relay_results.specs.Outside.{Outside, IsOpening}
 use Rattle.relay_queue.specs.Messages.{mail_of, HasDone}
 use Rattle.relay_core.specs.declared.config.RelayConfig.{RelayConfig}
-use Rattle.relay_core.specs.State.{State, all_closed, is_put}
+use Rattle.relay_core.specs.State.{State, config_of, all_closed, is_put}
 use Rattle.relay_core.specs.Ties.{ops_of}
 use Rattle.relay_lane.specs.Delivers.{GoesOn}
 use Rattle.relay_lane.specs.Reach.{IsReached}
 use Rattle.relay_threads.specs.declared.lane_end.LaneEndKind.{LaneEndKind}
 use Rattle.relay_threads.specs.declared.lane_end.LaneEndKind.TheVariants.{Finished, Memory, Gone}
 use Rattle.relay_delivery.specs.Machine.{first_in}
+use Rattle.relay_delivery.specs.Reach.{Call}
 
 -- the operations of messages, in order
 abbrev pub puts_of : List Mail → List Op
@@ -49,23 +50,24 @@ HasTotals s = length s.core.held + (s.core.applied + s.core.already) + length s.
 abbrev pub IsBelow : ℕ → Outside → Type 0
 IsBelow first o = (k : Document) (u : ℕ) → o.stored k ≡ Some u → u < first
 
--- if the wire describes the outside: each opening that fitted the wire at the start led to an outside that fits it now,
--- for which delivery of what was heard is as promised
-abbrev pub DeliversFrom : {S : Type 0} → Bool → (S → Outside → Type 0) → S → S → RelayConfig → List Mail → State → Type 0
-DeliversFrom describes fits start now c heard s =
-    IsTrue describes → (o : Outside) → fits start o → IsOpening o → IsBelow (first_in c.epoch) o → GoesOn fits now s (puts_of heard) o
+-- if the wire describes the outside: each opening that fitted the wire at the start led to an outside that fits it now and
+-- explains these calls, for which delivery of what was heard is as promised
+abbrev pub DeliversFrom : {S : Type 0} → Bool → (S → Outside → Type 0) → S → S → RelayConfig → List Mail → State → List Call → Type 0
+DeliversFrom describes fits start now c heard s calls =
+    IsTrue describes → (o : Outside) → fits start o → IsOpening o → IsBelow (first_in c.epoch) o → GoesOn fits now s (puts_of heard) calls o
 
 -- A lane with this config that started fresh has heard these messages, and worked on its wire; it reached its state
--- by calls that it may make, whatever the wire returned.
+-- by calls that it may make, whatever the wire returned. If the wire describes the outside, that explains these calls.
 pub record Course {S : Type 0} (describes : Bool) (fits : S → Outside → Type 0) (start now : S) (c : RelayConfig) (heard : List Mail) (s : State) : Type 0 where
   pub config : s.config ≡ c
+  pub core : s.core.config ≡ config_of c
   pub taken : s.core.taken ≡ length (puts_of heard)
   pub senders : length s.closed ≡ c.producers + 1
   pub closed : KnowsClosed s.closed heard
   pub not_closed : KnowsOpen s.closed heard
   pub totals : HasTotals s
   pub reached : IsReached s (puts_of heard)
-  pub delivers : DeliversFrom describes fits start now c heard s
+  pub delivers : DeliversFrom describes fits start now c heard s reached.core.calls
 
 -- How it ended, and what it heard of what was taken. If it finished, each sender closed and nothing is held; if it
 -- ended as Gone, not all of them had closed.

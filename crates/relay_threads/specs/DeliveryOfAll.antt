@@ -23,7 +23,7 @@ module _ {W : Type 0} (describes : W → Bool) (fits : W → Outside → Type 0)
   -- outside that explains these calls, delivery is sound and complete, whatever wire carried them, if the versions that
   -- were stored at the start are below those of the lane, or if the outside states the stored version in each conflict and
   -- none of them is one that the lane assigns. Each opening that fitted the wire at the start is continued to the end by an
-  -- outside for which delivery is sound and complete.
+  -- outside that explains these calls, for which delivery is sound and complete.
   pub record DeliveredLane (lane : ℕ) (start : W) (s : LaneSummary W) : Type 0 where
     pub taken : List Op
     pub own : (p : ℕ) → p < c.producers → taken_of taken p ≡ ops_for c.lanes lane (puts p)
@@ -33,7 +33,7 @@ module _ {W : Type 0} (describes : W → Bool) (fits : W → Outside → Type 0)
     pub reached : CameTo describes fits c taken s
     pub explained : IsExplained describes fits c taken s reached
     pub explained_if_stated : IsExplainedIfStated describes fits c taken s reached
-    pub delivers : IsTrue (describes start) → (o : Outside) → fits start o → IsOpening o → IsBelow (first_in c.epoch) o → Carries describes fits c taken s o
+    pub delivers : IsTrue (describes start) → (o : Outside) → fits start o → IsOpening o → IsBelow (first_in c.epoch) o → Carries describes fits c taken reached.reached.calls s o
 
   -- this holds for the lanes from this one on, each with its wire
   abbrev pub AllDelivered : ℕ → List W → List (LaneSummary W) → Type 0

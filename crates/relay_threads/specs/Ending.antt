@@ -8,7 +8,7 @@ use Rattle.relay_delivery.specs.Delivery.{HasDistinctNames, IsSound, IsComplete,
 use Rattle.relay_delivery.specs.Explained.{Explains}
 use Rattle.relay_delivery.specs.Stating.{BeginsBeside, StatesVersions}
 use Rattle.relay_delivery.specs.Lane as delivery
-use Rattle.relay_delivery.specs.Reach.{Reached}
+use Rattle.relay_delivery.specs.Reach.{Call, Reached}
 use Rattle.relay_queue.specs.Ends.{Queue}
 use Rattle.relay_queue.specs.Messages.{mail_of, HasDone, IsWellTaken}
 use Rattle.relay_core.specs.declared.config.RelayConfig.{RelayConfig}
@@ -53,13 +53,14 @@ module _ {W : Type 0} (describes : W → Bool) (fits : W → Outside → Type 0)
 
   -- ---- delivery
 
-  -- An outside fits the wire of the summary and continues the one before. For it delivery of these operations is
-  -- sound and complete, and the summary's counts are those of the requests that were sent and of the operations that
-  -- ended as applied, and as already applied, by their answers.
-  pub record Carries (ops : List Op) (s : LaneSummary W) (before : Outside) : Type 0 where
+  -- An outside fits the wire of the summary, continues the one before, and explains these calls of the lane. For it
+  -- delivery of these operations is sound and complete, and the summary's counts are those of the requests that were sent
+  -- and of the operations that ended as applied, and as already applied, by their answers.
+  pub record Carries (ops : List Op) (calls : List Call) (s : LaneSummary W) (before : Outside) : Type 0 where
     pub outside : Outside
     pub fitting : fits s.wire outside
     pub continues : Continues before outside
+    pub explains : Explains calls before outside
     pub requests : s.requests ≡ length outside.requests
     pub applied : s.applied ≡ applied_answers outside.requests
     pub already : s.already ≡ settled_already outside.requests
@@ -98,7 +99,7 @@ module _ {W : Type 0} (describes : W → Bool) (fits : W → Outside → Type 0)
   -- has not marked the lane. Each operation that it took was applied or is reported, and it reached that by calls
   -- that it may make. Each outside that explains these calls is one for which delivery is sound and complete, if its
   -- stored versions were below those of the lane, or if it states them in conflicts. Each opening that fitted the wire at
-  -- the start is continued to the end by an outside.
+  -- the start is continued to the end by an outside that explains these calls.
   pub record FinishedLane (rows : List (List ClosedEnd)) (lane : ℕ) (start : W) (s : LaneSummary W) : Type 0 where
     pub messages : List Mail
     pub met : AreMetAt lane 0 messages rows
@@ -108,7 +109,7 @@ module _ {W : Type 0} (describes : W → Bool) (fits : W → Outside → Type 0)
     pub reached : CameTo (puts_of messages) s
     pub explained : HasDistinctNames (puts_of messages) → IsExplained (puts_of messages) s reached
     pub explained_if_stated : HasDistinctNames (puts_of messages) → IsExplainedIfStated (puts_of messages) s reached
-    pub delivers : HasDistinctNames (puts_of messages) → IsTrue (describes start) → (o : Outside) → fits start o → IsOpening o → IsBelow (first_in c.epoch) o → Carries (puts_of messages) s o
+    pub delivers : HasDistinctNames (puts_of messages) → IsTrue (describes start) → (o : Outside) → fits start o → IsOpening o → IsBelow (first_in c.epoch) o → Carries (puts_of messages) reached.reached.calls s o
 
   -- this holds for the lanes from this one on, each with its wire
   abbrev pub AllFinished : List (List ClosedEnd) → ℕ → List W → List (LaneSummary W) → Type 0

@@ -1,14 +1,15 @@
 -- What a lane's thread tells of the operations that it took.
-use Rattle.std.specs.Prelude.{◌≡◌, ◌+◌, ◌==◌, ℕ, List, [], ◌∷◌, ◌++◌, Option, Some, Bool, IsTrue, filter, length, slice_get}
+use Rattle.std.specs.Prelude.{◌≡◌, ◌+◌, ◌==◌, ℕ, List, [], ◌∷◌, ◌++◌, Option, Some, None, Bool, IsTrue, filter, length, slice_get, if◌then◌else◌}
 use Rattle.relay_action.specs.declared.mail.Mail.{Mail}
 use Rattle.relay_action.specs.declared.operation.Op.{Op}
 use Rattle.relay_action.specs.declared.operation.OpName.{OpName}
-use Rattle.relay_action.specs.declared.write.Write.{Write}
+use Rattle.relay_results.specs.declared.outcome.Outcome.{Outcome}
 use Rattle.relay_results.specs.Words.{Mem, count}
-use Rattle.relay_results.specs.Documents.{document_of, name_of}
+use Rattle.relay_results.specs.Documents.{document_of, name_of, write_for}
+use Rattle.relay_results.specs.Verdicts.{is_conflict}
 use Rattle.relay_results.specs.Numbers.{from_zero}
 use Rattle.relay_results.specs.Outside.{Outside, IsOpening}
-use Rattle.relay_delivery.specs.Causes.{IsAssignment}
+use Rattle.relay_delivery.specs.Causes.{IsAssignment, IsAnswered}
 use Rattle.relay_delivery.specs.Delivery.{HasDistinctNames, IsTrueReport, assigned_at}
 use Rattle.relay_delivery.specs.Explained.{Begins, Explains}
 use Rattle.relay_delivery.specs.Lane as delivery
@@ -23,7 +24,6 @@ use Rattle.relay_core.specs.State.{State}
 use Rattle.relay_core.specs.Successes.{successes_from}
 use Rattle.relay_lane.specs.Delivers.{GoesOn}
 use Rattle.relay_lane.specs.Once.{is_op_as, times}
-use Rattle.relay_lane.specs.Reach.{IsReached}
 use Rattle.relay_threads.specs.declared.lane_end.LaneEndKind.{LaneEndKind}
 use Rattle.relay_threads.specs.declared.lane_end.LaneEndKind.TheVariants.{Finished}
 use Rattle.relay_threads.specs.Course.{puts_of, HasHeard, IsBelow, Course}
@@ -88,18 +88,26 @@ abbrev pub noted_in : List Call → delivery.State → List Success
 noted_in [] s = []
 noted_in (c ∷ cs) s = noted_by c s ++ noted_in cs (call c s)
 
--- the index has applied a write with this version to the document of the operation with this name
+-- the status that is told of an operation that ended by an entry with this status: none of a conflict (409), since an
+-- earlier request had applied it then
+abbrev pub status_told : ℕ → Option ℕ
+status_told status = if is_conflict status then None else Some status
+
+-- The index has applied the write of the operation with this name, with this version. A request that carried that write was
+-- answered with entries that match it, and the status that was told is that of the entry at its place.
 pub record IsApplied (taken : List Op) (o : Outside) (x : Success) : Type 0 where
   pub op : Op
   pub was_taken : Mem op taken
   pub name : x.name ≡ name_of op
-  pub write : Write
-  pub is_in : Mem write (o.applied (document_of op.key))
-  pub version : write.version ≡ x.version
+  pub is_in : Mem (write_for op x.version) (o.applied (document_of op.key))
+  pub outcome : Outcome
+  pub answered : IsAnswered o (write_for op x.version) outcome
+  pub status : x.status ≡ status_told outcome.status
 
 -- What was told is true beside this outside: each operation that was told of as applied was applied, with the version
--- that was told; and each report that was told is on an operation that was taken, and has a true cause, by one
--- assignment of versions, which follows the places of what was taken.
+-- that was told, and the status that was told is the one that a request with it was answered; and each report that was told
+-- is on an operation that was taken, and has a true cause, by one assignment of versions, which follows the places of what
+-- was taken.
 pub record IsToldTruly (g : Config) (taken : List Op) (applied : List Success) (reported : List Report) (o : Outside) : Type 0 where
   pub each_applied : (x : Success) → Mem x applied → IsApplied taken o x
   pub versions : Op → Option ℕ
@@ -109,51 +117,60 @@ pub record IsToldTruly (g : Config) (taken : List Op) (applied : List Success) (
 
 -- ---- while the lane works
 
--- What a lane has told that heard these messages: these operations ended as applied, and its first reports, as many as
--- the number says. Of each name as many operations are held, noted, reported, and told of as applied as were taken. It
--- reached its state by calls that it may make, and what it told of as applied, and then notes, is what the answers in
--- these calls ended so, in order; each of these operations has the version assigned for its place.
-pub record HasTold (start told : ℕ → Option Told) (number : ℕ) (s : State) (heard : List Mail) : Type 0 where
-  pub reached : IsReached s (puts_of heard)
+-- What a lane tells that heard these messages, and whose calls noted all of these operations: some of them ended as applied,
+-- and its first reports, as many as the number says. What its calls noted it told, in order, or still notes. Of each name as
+-- many operations are held, noted, reported, and told of as applied as were taken; and each of those that are noted or told
+-- of has the version assigned for its place.
+pub record Telling (all : List Success) (start told : ℕ → Option Told) (number : ℕ) (s : State) (heard : List Mail) : Type 0 where
   pub applied : List Success
   pub reported : List Report
   pub waiting : List Report
   pub reports : s.core.reports ≡ reported ++ waiting
   pub counted : length reported ≡ number
-  pub noted : noted_in reached.core.calls (fresh_state s.core.config) ≡ applied ++ s.successes
+  pub noted : all ≡ applied ++ s.successes
   pub once : (n : OpName) → times n s + count (is_success_as n) applied ≡ count (is_op_as n) (puts_of heard)
   pub versions : (x : Success) → Mem x (applied ++ s.successes) → IsOfTaken s.core.config (puts_of heard) x
   pub shown : Shows start told applied reported
 
--- whatever the lane told before, it goes on
-abbrev pub GoesOnTelling : (old new : ℕ → Option Told) → (k l : ℕ) → State → State → List Mail → List Mail → Type 0
-GoesOnTelling old new k l s t before now = (start : ℕ → Option Told) → HasTold start old k s before → HasTold start new l t now
+-- whatever it told before, it goes on
+abbrev pub TellsMore : (old new : ℕ → Option Told) → (k l : ℕ) → State → State → Type 0
+TellsMore old new k l s t = (all : List Success) (start : ℕ → Option Told) (heard : List Mail) → Telling all start old k s heard → Telling all start new l t heard
 
--- whatever the lane told before, it told no more
-abbrev pub StaysTold : State → State → Type 0
-StaysTold s t = (told : ℕ → Option Told) (k : ℕ) (heard : List Mail) → GoesOnTelling told told k k s t heard heard
+module _ {S : Type 0} (describes : Bool) (fits : S → Outside → Type 0) where
+  -- a lane that heard these messages and came to its state by this course has told of what its calls noted
+  pub record HasTold (first now : S) (c : RelayConfig) (start told : ℕ → Option Told) (number : ℕ) (s : State) (heard : List Mail) : Type 0 where
+    pub course : Course describes fits first now c heard s
+    pub telling : Telling (noted_in course.reached.core.calls (fresh_state s.core.config)) start told number s heard
+
+  -- wherever the lane began, and whatever it told before, it goes on
+  abbrev pub GoesOnTelling : (before after : S) → (old new : ℕ → Option Told) → (k l : ℕ) → State → State → List Mail → List Mail → Type 0
+  GoesOnTelling before after old new k l s t heard now =
+      (first : S) (c : RelayConfig) (start : ℕ → Option Told) → HasTold first before c start old k s heard → HasTold first after c start new l t now
+
+  -- it told no more
+  abbrev pub StaysTold : (before after : S) → State → State → Type 0
+  StaysTold before after s t = (told : ℕ → Option Told) (k : ℕ) (heard : List Mail) → GoesOnTelling before after told told k k s t heard heard
 
 -- ---- at the end
 
--- An outside fits the wire now and continues this one, as delivery promises (`GoesOn`), and what was told is true beside
--- it.
-pub record GoesOnTruly {S : Type 0} (fits : S → Outside → Type 0) (now : S) (s : State) (taken : List Op) (applied : List Success) (reported : List Report) (before : Outside) : Type 0 where
-  pub goes_on : GoesOn fits now s taken before
+-- An outside fits the wire now and continues this one, as delivery promises, and explains the lane's calls (`GoesOn`); and
+-- what was told is true beside it.
+pub record GoesOnTruly {S : Type 0} (fits : S → Outside → Type 0) (now : S) (s : State) (taken : List Op) (calls : List Call) (applied : List Success) (reported : List Report) (before : Outside) : Type 0 where
+  pub goes_on : GoesOn fits now s taken calls before
   pub truly : IsToldTruly s.core.config taken applied reported goes_on.outside
 
 -- What a lane has told that has ended like this, of what it heard: it notes nothing, and if it finished, it told of all
 -- that it reports. If no two operations that it heard have the same name, what it told is true beside each outside that
 -- explains its calls, if the versions stored at the start were below those of the lane, or if the outside states the
 -- stored version in each conflict and none of them is one that the lane assigns; and each opening that fitted the wire
--- at the start is continued to the end by an outside beside which it is true.
+-- at the start is continued to the end by an outside that explains these calls, beside which it is true.
 pub record EndsTold {S : Type 0} (describes : Bool) (fits : S → Outside → Type 0) (first now : S) (start told : ℕ → Option Told) (c : RelayConfig) (taken : List Mail) (kind : LaneEndKind) (s : State) : Type 0 where
   pub messages : List Mail
   pub heard : HasHeard kind taken messages
-  pub course : Course describes fits first now c messages s
   pub number : ℕ
-  pub has_told : HasTold start told number s messages
+  pub has_told : HasTold describes fits first now c start told number s messages
   pub none_noted : s.successes ≡ []
-  pub all_reported : kind ≡ Finished → has_told.reported ≡ s.core.reports
-  pub explained : HasDistinctNames (puts_of messages) → (o p : Outside) → Begins s.core.config.first o → Explains has_told.reached.core.calls o p → IsToldTruly s.core.config (puts_of messages) has_told.applied has_told.reported p
-  pub explained_if_stated : HasDistinctNames (puts_of messages) → (o p : Outside) → BeginsBeside s.core.config o → Explains has_told.reached.core.calls o p → StatesVersions p → IsToldTruly s.core.config (puts_of messages) has_told.applied has_told.reported p
-  pub described : HasDistinctNames (puts_of messages) → IsTrue describes → (o : Outside) → fits first o → IsOpening o → IsBelow (first_in c.epoch) o → GoesOnTruly fits now s (puts_of messages) has_told.applied has_told.reported o
+  pub all_reported : kind ≡ Finished → has_told.telling.reported ≡ s.core.reports
+  pub explained : HasDistinctNames (puts_of messages) → (o p : Outside) → Begins s.core.config.first o → Explains has_told.course.reached.core.calls o p → IsToldTruly s.core.config (puts_of messages) has_told.telling.applied has_told.telling.reported p
+  pub explained_if_stated : HasDistinctNames (puts_of messages) → (o p : Outside) → BeginsBeside s.core.config o → Explains has_told.course.reached.core.calls o p → StatesVersions p → IsToldTruly s.core.config (puts_of messages) has_told.telling.applied has_told.telling.reported p
+  pub described : HasDistinctNames (puts_of messages) → IsTrue describes → (o : Outside) → fits first o → IsOpening o → IsBelow (first_in c.epoch) o → GoesOnTruly fits now s (puts_of messages) has_told.course.reached.core.calls has_told.telling.applied has_told.telling.reported o

@@ -9,6 +9,7 @@ use Rattle.relay_delivery.specs.Delivery.{HasDistinctNames}
 use Rattle.relay_delivery.specs.Explained.{Explains}
 use Rattle.relay_delivery.specs.Lane.{fresh_state}
 use Rattle.relay_delivery.specs.Machine.{first_in}
+use Rattle.relay_delivery.specs.Reach.{Call}
 use Rattle.relay_delivery.specs.Stating.{BeginsBeside, StatesVersions}
 use Rattle.relay_core.specs.declared.config.RelayConfig.{RelayConfig}
 use Rattle.relay_core.specs.declared.success.Success.{Success}
@@ -24,10 +25,10 @@ use Rattle.relay_threads.specs.Sums.{AreMetAt}
 use Rattle.relay_threads.specs.Told.{Told, Shows, noted_in, IsOfTaken, IsToldTruly}
 
 module _ {W T : Type 0} (describes : W → Bool) (fits : W → Outside → Type 0) (told : T → ℕ → Option Told) (c : RelayConfig) where
-  -- An outside fits the wire of the summary and continues the one before, and delivery is sound and complete for it
-  -- (`Carries`); and what was told is true beside it.
-  pub record CarriesTruly (ops : List Op) (applied : List Success) (s : LaneSummary W) (before : Outside) : Type 0 where
-    pub carries : Carries describes fits c ops s before
+  -- An outside fits the wire of the summary, continues the one before and explains the lane's calls, and delivery is sound
+  -- and complete for it (`Carries`); and what was told is true beside it.
+  pub record CarriesTruly (ops : List Op) (calls : List Call) (applied : List Success) (s : LaneSummary W) (before : Outside) : Type 0 where
+    pub carries : Carries describes fits c ops calls s before
     pub truly : IsToldTruly (config_of c) ops applied (map report_of s.reports.items) carries.outside
 
   -- What a lane has told that finished, and took what each sender sent: that these operations ended as applied, and the
@@ -35,7 +36,8 @@ module _ {W T : Type 0} (describes : W → Bool) (fits : W → Outside → Type 
   -- ended so, in order, each with the version assigned for its place. If no two operations that it took have the same name, what it told is true beside each outside that
   -- explains the calls by which it reached its summary, if the versions stored at the start were below those of the lane,
   -- or if the outside states the stored version in each conflict and none of them is one that the lane assigns; and each
-  -- opening that fitted the wire at the start is continued to the end by an outside beside which it is true.
+  -- opening that fitted the wire at the start is continued to the end by an outside that explains these calls, beside which
+  -- it is true.
   pub record ToldLane (rows : List (List ClosedEnd)) (lane : ℕ) (start : W) (first last : T) (s : LaneSummary W) : Type 0 where
     pub messages : List Mail
     pub met : AreMetAt lane 0 messages rows
@@ -47,7 +49,7 @@ module _ {W T : Type 0} (describes : W → Bool) (fits : W → Outside → Type 
     pub noted : noted_in reached.reached.calls (fresh_state (config_of c)) ≡ applied
     pub explained : HasDistinctNames (puts_of messages) → (o p : Outside) → IsOpening o → IsBelow (first_in c.epoch) o → Explains reached.reached.calls o p → IsToldTruly (config_of c) (puts_of messages) applied (map report_of s.reports.items) p
     pub explained_if_stated : HasDistinctNames (puts_of messages) → (o p : Outside) → BeginsBeside (config_of c) o → Explains reached.reached.calls o p → StatesVersions p → IsToldTruly (config_of c) (puts_of messages) applied (map report_of s.reports.items) p
-    pub described : HasDistinctNames (puts_of messages) → IsTrue (describes start) → (o : Outside) → fits start o → IsOpening o → IsBelow (first_in c.epoch) o → CarriesTruly (puts_of messages) applied s o
+    pub described : HasDistinctNames (puts_of messages) → IsTrue (describes start) → (o : Outside) → fits start o → IsOpening o → IsBelow (first_in c.epoch) o → CarriesTruly (puts_of messages) reached.reached.calls applied s o
 
   -- this holds for the lanes from this one on, each with its wire, and with what it told by at the start and at the end
   abbrev pub AllTold : List (List ClosedEnd) → ℕ → List W → List T → List T → List (LaneSummary W) → Type 0

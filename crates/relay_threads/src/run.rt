@@ -6,15 +6,16 @@ ghost use Rattle.relay_action.specs.declared.mail.Mail.{Mail};
 ghost use Rattle.relay_queue.specs.Messages.{mail_of, HasDone, IsWellTaken};
 ghost use Rattle.relay_core.specs.State.{fresh, all_closed, without_successes};
 ghost use Rattle.relay_lane.specs.Out.{out_of};
-ghost use Rattle.relay_threads.specs.Course.{KnowsClosed, HasHeard, Course, EndsAs};
-ghost use Rattle.relay_threads.specs.Steps.{Takes, KeepsOn};
-ghost use Rattle.relay_threads.specs.Told.{HasTold, GoesOnTelling, StaysTold, EndsTold};
+ghost use Rattle.relay_lane.specs.Turns.{work_left};
+ghost use Rattle.relay_threads.specs.Course.{KnowsClosed, HasHeard, EndsAs};
+ghost use Rattle.relay_threads.specs.Steps.{Takes};
+ghost use Rattle.relay_threads.specs.Told.{HasTold, GoesOnTelling, TellsMore, StaysTold, EndsTold};
 
 use crate::lane_end::{LaneEnd, LaneEndKind};
 use crate::tell::Tell;
 use relay_action::{Body, Mail};
 use relay_lane::{
-    Lane, Pace, TakeFault, Wire, collect, drain, make_room, pass, send_ready, settle_next,
+    Lane, Pace, TakeFault, Wire, collect, drain_next, make_room, pass, send_ready, settle_next,
 };
 use relay_queue::{Gone, LaneTake};
 use std::alloc::AllocError;
@@ -32,10 +33,8 @@ fn make_place<W: Wire, P: Pace>(
     ensures closed { lane.new.state.closed ≡ lane.old.state.closed }
     ensures out { W.out wire.new ≡ out_of lane.new.state }
     ensures describes { W.describes wire.new ≡ W.describes wire.old }
-    ensures keeps { (heard : List Mail)
-        → KeepsOn (W.describes wire.old) W.fits wire.old wire.new lane.old.state lane.new.state
-        heard heard }
-    ensures told { StaysTold lane.old.state lane.new.state }
+    ensures told { StaysTold (W.describes wire.old) W.fits wire.old wire.new
+        lane.old.state lane.new.state }
 {
     if lane.held() < lane.max_held() {
         return Ok(());
@@ -210,10 +209,8 @@ fn settle_some<W: Wire, P: Pace>(lane: &mut Lane, wire: &mut W, pace: &mut P, me
     requires out { W.out wire.old ≡ out_of lane.old.state }
     ensures out { W.out wire.new ≡ out_of lane.new.state }
     ensures describes { W.describes wire.new ≡ W.describes wire.old }
-    ensures keeps { (heard : List Mail)
-        → KeepsOn (W.describes wire.old) W.fits wire.old wire.new lane.old.state lane.new.state
-        heard heard }
-    ensures told { StaysTold lane.old.state lane.new.state }
+    ensures told { StaysTold (W.describes wire.old) W.fits wire.old wire.new
+        lane.old.state lane.new.state }
 {
     if awaits_answer(lane, message) {
         settle_next(lane, wire, pace);
@@ -225,10 +222,8 @@ fn send_due<W: Wire, P: Pace>(lane: &mut Lane, wire: &mut W, pace: &mut P) -> Re
     requires out { W.out wire.old ≡ out_of lane.old.state }
     ensures out { W.out wire.new ≡ out_of lane.new.state }
     ensures describes { W.describes wire.new ≡ W.describes wire.old }
-    ensures keeps { (heard : List Mail)
-        → KeepsOn (W.describes wire.old) W.fits wire.old wire.new lane.old.state lane.new.state
-        heard heard }
-    ensures told { StaysTold lane.old.state lane.new.state }
+    ensures told { StaysTold (W.describes wire.old) W.fits wire.old wire.new
+        lane.old.state lane.new.state }
 {
     pass(lane, pace);
     send_ready(lane, wire, pace)?;
@@ -247,10 +242,8 @@ fn go_on<W: Wire, P: Pace>(
     requires out { W.out wire.old ≡ out_of lane.old.state }
     ensures out { W.out wire.new ≡ out_of lane.new.state }
     ensures describes { W.describes wire.new ≡ W.describes wire.old }
-    ensures keeps { (heard : List Mail)
-        → KeepsOn (W.describes wire.old) W.fits wire.old wire.new lane.old.state lane.new.state
-        heard heard }
-    ensures told { StaysTold lane.old.state lane.new.state }
+    ensures told { StaysTold (W.describes wire.old) W.fits wire.old wire.new
+        lane.old.state lane.new.state }
 {
     if matches!(message, Message::Other) && lane.is_gathering() {
         return Ok(());
@@ -270,8 +263,8 @@ fn tell_reports<R: Wait, T: Tell>(
     tell: &mut T,
     told: &mut usize,
 ) -> Result<(), AllocError>
-    ensures told { (heard : List Mail) → GoesOnTelling (T.told tell.old) (T.told tell.new)
-        told.old told.new lane.now.state lane.now.state heard heard }
+    ensures told { TellsMore (T.told tell.old) (T.told tell.new) told.old told.new
+        lane.now.state lane.now.state }
     ensures all { OnOk result (length lane.now.state.core.reports ≤ told.new) }
 {
     let reports = lane.reports();
@@ -290,8 +283,8 @@ fn tell_all<R: Wait, T: Tell>(
     told: &mut usize,
 ) -> Result<(), AllocError>
     ensures state { lane.new.state ≡ without_successes lane.old.state }
-    ensures told { (heard : List Mail) → GoesOnTelling (T.told tell.old) (T.told tell.new)
-        told.old told.new lane.old.state lane.new.state heard heard }
+    ensures told { TellsMore (T.told tell.old) (T.told tell.new) told.old told.new
+        lane.old.state lane.new.state }
     ensures all { OnOk result (length lane.new.state.core.reports ≤ told.new) }
 {
     tell.applied(rt, lane.successes());
@@ -312,18 +305,80 @@ fn go_on_and_tell<R: Wait, W: Wire, P: Pace, T: Tell>(
     requires out { W.out wire.old ≡ out_of lane.old.state }
     ensures out { W.out wire.new ≡ out_of lane.new.state }
     ensures describes { W.describes wire.new ≡ W.describes wire.old }
-    ensures keeps { (heard : List Mail)
-        → KeepsOn (W.describes wire.old) W.fits wire.old wire.new lane.old.state lane.new.state
-        heard heard }
-    ensures told { (heard : List Mail) → GoesOnTelling (T.told tell.old) (T.told tell.new)
-        told.old told.new lane.old.state lane.new.state heard heard }
+    ensures told { (heard : List Mail) → GoesOnTelling (W.describes wire.old) W.fits
+        wire.old wire.new (T.told tell.old) (T.told tell.new) told.old told.new
+        lane.old.state lane.new.state heard heard }
 {
     go_on(lane, wire, pace, message)?;
     tell_all(rt, lane, tell, told)
 }
 
-// Works until nothing is held.
-fn drain_all<W: Wire, P: Pace>(lane: &mut Lane, wire: &mut W, pace: &mut P) -> LaneEndKind
+// One turn of a drain, if something is held, and tells how operations ended in it; returns whether it
+// was.
+fn drain_turn<R: Wait, W: Wire, P: Pace, T: Tell>(
+    rt: &R,
+    lane: &mut Lane,
+    wire: &mut W,
+    pace: &mut P,
+    tell: &mut T,
+    told: &mut usize,
+) -> Result<bool, AllocError>
+    requires closed { all_closed lane.old.state ≡ true }
+    requires out { W.out wire.old ≡ out_of lane.old.state }
+    ensures none { IfOk result (λ some. some ≡ false → lane.new.state.core.held ≡ []) }
+    ensures all { IfOk result (λ some. some ≡ true → lane.new.state.successes ≡ []
+        × (length lane.new.state.core.reports ≤ told.new)) }
+    ensures smaller { IfOk result (λ some. some ≡ true
+        → work_left lane.new.state < work_left lane.old.state) }
+    ensures closed { lane.new.state.closed ≡ lane.old.state.closed }
+    ensures out { W.out wire.new ≡ out_of lane.new.state }
+    ensures describes { W.describes wire.new ≡ W.describes wire.old }
+    ensures told { (heard : List Mail) → GoesOnTelling (W.describes wire.old) W.fits
+        wire.old wire.new (T.told tell.old) (T.told tell.new) told.old told.new
+        lane.old.state lane.new.state heard heard }
+{
+    if !drain_next(lane, wire, pace)? {
+        return Ok(false);
+    }
+    tell_all(rt, lane, tell, told)?;
+    Ok(true)
+}
+
+// Works until nothing is held, and tells after each turn.
+fn drain_turns<R: Wait, W: Wire, P: Pace, T: Tell>(
+    rt: &R,
+    lane: &mut Lane,
+    wire: &mut W,
+    pace: &mut P,
+    tell: &mut T,
+    told: &mut usize,
+) -> Result<(), AllocError>
+    requires closed { all_closed lane.old.state ≡ true }
+    requires out { W.out wire.old ≡ out_of lane.old.state }
+    ensures none { OnOk result (lane.new.state.core.held ≡ []) }
+    ensures closed { lane.new.state.closed ≡ lane.old.state.closed }
+    ensures out { W.out wire.new ≡ out_of lane.new.state }
+    ensures describes { W.describes wire.new ≡ W.describes wire.old }
+    ensures told { (heard : List Mail) → GoesOnTelling (W.describes wire.old) W.fits
+        wire.old wire.new (T.told tell.old) (T.told tell.new) told.old told.new
+        lane.old.state lane.new.state heard heard }
+{
+    'turns: loop {
+        if !drain_turn(rt, lane, wire, pace, tell, told)? {
+            return Ok(());
+        }
+    }
+}
+
+// How a lane ends that has taken all messages: it works until nothing is held.
+fn drain_all<R: Wait, W: Wire, P: Pace, T: Tell>(
+    rt: &R,
+    lane: &mut Lane,
+    wire: &mut W,
+    pace: &mut P,
+    tell: &mut T,
+    told: &mut usize,
+) -> LaneEndKind
     requires closed { all_closed lane.old.state ≡ true }
     requires out { W.out wire.old ≡ out_of lane.old.state }
     ensures early { result ≢ LaneEndKind.Gone }
@@ -331,12 +386,11 @@ fn drain_all<W: Wire, P: Pace>(lane: &mut Lane, wire: &mut W, pace: &mut P) -> L
     ensures closed { lane.new.state.closed ≡ lane.old.state.closed }
     ensures out { W.out wire.new ≡ out_of lane.new.state }
     ensures describes { W.describes wire.new ≡ W.describes wire.old }
-    ensures keeps { (heard : List Mail)
-        → KeepsOn (W.describes wire.old) W.fits wire.old wire.new lane.old.state lane.new.state
-        heard heard }
-    ensures told { StaysTold lane.old.state lane.new.state }
+    ensures told { (heard : List Mail) → GoesOnTelling (W.describes wire.old) W.fits
+        wire.old wire.new (T.told tell.old) (T.told tell.new) told.old told.new
+        lane.old.state lane.new.state heard heard }
 {
-    match drain(lane, wire, pace) {
+    match drain_turns(rt, lane, wire, pace, tell, told) {
         Ok(()) => LaneEndKind::Finished,
         Err(_) => LaneEndKind::Memory,
     }
@@ -379,19 +433,16 @@ fn take_next<R: Wait, W: Wire, P: Pace, T: Tell>(
     ensures same { (take.new.queue ≡ take.old.queue) × (take.new.senders ≡ take.old.senders) }
     ensures out { W.out wire.new ≡ out_of lane.new.state }
     ensures describes { W.describes wire.new ≡ W.describes wire.old }
-    ensures ok { OnOk result
-        (KeepsOn (W.describes wire.old) W.fits wire.old wire.new lane.old.state lane.new.state
-        take.old.taken take.new.taken) }
     ensures early { IfErr result (λ kind. kind ≢ LaneEndKind.Finished) }
     ensures same_closed { IfErr result
         (λ kind. kind ≡ LaneEndKind.Gone → lane.new.state.closed ≡ lane.old.state.closed) }
     ensures told { OnOk result
-        (GoesOnTelling (T.told tell.old) (T.told tell.new) told.old told.new
+        (GoesOnTelling (W.describes wire.old) W.fits wire.old wire.new
+        (T.told tell.old) (T.told tell.new) told.old told.new
         lane.old.state lane.new.state take.old.taken take.new.taken) }
     ensures stopped { IfErr result (λ kind. (heard : List Mail) × HasHeard kind take.new.taken heard
-        × KeepsOn (W.describes wire.old) W.fits wire.old wire.new lane.old.state lane.new.state
-        take.old.taken heard
-        × GoesOnTelling (T.told tell.old) (T.told tell.new) told.old told.new
+        × GoesOnTelling (W.describes wire.old) W.fits wire.old wire.new
+        (T.told tell.old) (T.told tell.new) told.old told.new
         lane.old.state lane.new.state take.old.taken heard) }
 {
     make_place(lane, wire, pace)?;
@@ -423,18 +474,15 @@ fn take_all<R: Wait, W: Wire, P: Pace, T: Tell>(
     ensures out { W.out wire.new ≡ out_of lane.new.state }
     ensures describes { W.describes wire.new ≡ W.describes wire.old }
     ensures closed { OnOk result (all_closed lane.new.state ≡ true) }
-    ensures ok { OnOk result
-        (Course (W.describes wire.old) W.fits wire.old wire.new lane.old.state.config
-        take.new.taken lane.new.state) }
     ensures early { IfErr result (λ kind. kind ≢ LaneEndKind.Finished) }
     ensures not_closed { IfErr result
         (λ kind. kind ≡ LaneEndKind.Gone → all_closed lane.new.state ≡ false) }
     ensures told { OnOk result
-        (HasTold (T.told tell.old) (T.told tell.new) told.new lane.new.state take.new.taken) }
+        (HasTold (W.describes wire.old) W.fits wire.old wire.new lane.old.state.config
+        (T.told tell.old) (T.told tell.new) told.new lane.new.state take.new.taken) }
     ensures stopped { IfErr result (λ kind. (heard : List Mail) × HasHeard kind take.new.taken heard
-        × Course (W.describes wire.old) W.fits wire.old wire.new lane.old.state.config
-        heard lane.new.state
-        × HasTold (T.told tell.old) (T.told tell.new) told.new lane.new.state heard) }
+        × HasTold (W.describes wire.old) W.fits wire.old wire.new lane.old.state.config
+        (T.told tell.old) (T.told tell.new) told.new lane.new.state heard) }
 {
     let mut more = false;
     'messages: for _ in rt.forever() {
@@ -467,12 +515,11 @@ fn work<R: Wait, W: Wire, P: Pace, T: Tell>(
     ensures ends { EndsAs (W.describes wire.old) W.fits wire.old wire.new lane.old.state.config
         take.new.taken result lane.new.state }
     ensures told { (heard : List Mail) × HasHeard result take.new.taken heard
-        × Course (W.describes wire.old) W.fits wire.old wire.new lane.old.state.config
-        heard lane.new.state
-        × HasTold (T.told tell.old) (T.told tell.new) told.new lane.new.state heard }
+        × HasTold (W.describes wire.old) W.fits wire.old wire.new lane.old.state.config
+        (T.told tell.old) (T.told tell.new) told.new lane.new.state heard }
 {
     match take_all(rt, take, lane, wire, pace, tell, told) {
-        Ok(()) => drain_all(lane, wire, pace),
+        Ok(()) => drain_all(rt, lane, wire, pace, tell, told),
         Err(kind) => kind,
     }
 }
@@ -499,11 +546,12 @@ fn kind_after(kind: LaneEndKind, told: Result<(), AllocError>) -> LaneEndKind
 /// meanwhile, as its pace returns them, before it settles an answer and before it sends.
 /// However it ends, it first waits for what is in flight and settles it.
 ///
-/// After each round of that it tells `tell` of the operations that ended in it, and at the end that
-/// it ends. So if it ends as Finished, it has told of each operation that it took once, whatever
+/// After each round of that, and at the end after each turn until nothing is held, it tells `tell` of
+/// the operations that ended in it; and at the end that it ends. So if it ends as Finished, it has told of each operation that it took once, whatever
 /// its wire returned. What it told is true beside each outside that explains its calls, and beside
 /// one that continues each outside which the wire describes: if it told that an operation ended as
-/// applied, a write with that version was applied; and each report that it told has a true cause.
+/// applied, its write was applied with that version, and the status that it told is that of the entry
+/// with which it was answered; and each report that it told has a true cause.
 ///
 /// It ends as Memory if the allocation for an operation that it took, for a request or for telling
 /// of a report failed, and as Gone if the queue says that all senders are dropped but not all had closed; [`LaneEnd`] says

@@ -7,14 +7,14 @@ use relay_fixtures::applied::{count_applied, stores};
 use relay_fixtures::index_wire::{IndexWire, Way, wire_of};
 use relay_fixtures::keys;
 use relay_index::Index;
-use relay_lane::{Pace, WireFault};
+use relay_lane::{Loss, Pace};
 use std::alloc::Global;
 
 /// A wire to an empty index, which loses its first reply.
 pub fn losing_wire(alloc: Global) -> IndexWire
     ensures { result.flying ≡ None }
 {
-    wire_of(alloc, Way::FailsReply(1, WireFault::Lost))
+    wire_of(alloc, Way::FailsReply(1, Loss::Closed))
 }
 
 /// A pace that does not wait.

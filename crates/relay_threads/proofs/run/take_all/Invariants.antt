@@ -1,6 +1,5 @@
 use Rattle.std.proofs.Common.{◌≡◌}
 use Rattle.relay_lane.specs.Out.{out_of}
-use Rattle.relay_threads.specs.Course.{Course}
 use Rattle.relay_threads.specs.Told.{HasTold}
 use Rattle.relay_threads.proofs.run.take_all.Given as goal
 
@@ -10,6 +9,5 @@ invariant-messages g l = record {
   senders : l.take.senders ≡ l.fn.take.senders;
   out : g.W.Wire.out l.wire ≡ out_of l.lane.state;
   describes : g.W.Wire.describes l.wire ≡ g.W.Wire.describes l.fn.wire;
-  course : Course (g.W.Wire.describes l.fn.wire) g.W.Wire.fits l.fn.wire l.wire l.fn.lane.state.config l.take.taken l.lane.state;
-  told : HasTold (g.T.Tell.told l.fn.tell) (g.T.Tell.told l.tell) l.told l.lane.state l.take.taken;
+  told : HasTold (g.W.Wire.describes l.fn.wire) g.W.Wire.fits l.fn.wire l.wire l.fn.lane.state.config (g.T.Tell.told l.fn.tell) (g.T.Tell.told l.tell) l.told l.lane.state l.take.taken;
 }

@@ -1,10 +1,9 @@
-use Rattle.std.proofs.Common.{List, ◌-◌, length}
-use Rattle.relay_action.specs.declared.mail.Mail.{Mail}
-use Rattle.relay_threads.specs.Told.{GoesOnTelling}
+use Rattle.std.proofs.Common.{◌-◌, length}
+use Rattle.relay_threads.specs.Told.{TellsMore}
 use Rattle.relay_threads.proofs.run.tell_reports.Given as goal
 
 abbrev pub invariant-loop-told : goal.invariant-loop-told
-invariant-loop-told g l = (heard : List Mail) → GoesOnTelling (g.T.Tell.told l.fn.tell) (g.T.Tell.told l.tell) l.fn.told l.told l.lane.state l.lane.state heard heard
+invariant-loop-told g l = TellsMore (g.T.Tell.told l.fn.tell) (g.T.Tell.told l.tell) l.fn.told l.told l.lane.state l.lane.state
 
 abbrev pub decreases-loop-told : goal.decreases-loop-told
 decreases-loop-told g l = length l.reports - l.told
