@@ -3,6 +3,7 @@ use Rattle.std.proofs.Common.{◌≡◌, ◌≤◌, arith, ℕ, zero, suc, List,
 use Rattle.std.specs.List.{list_any}
 use Rattle.std.specs.Prelude.{slice_get, unwrap_or, not, nat_lt, nat_le, ◌||◌}
 use borrow.Author.Tests.{ltb-true}
+use Rattle.relay_results.specs.declared.cause.Loss.TheVariants as loss
 use Rattle.relay_action.specs.declared.operation.Op.{Op}
 use Rattle.relay_action.specs.declared.mail.Body.{Body}
 use Rattle.relay_action.specs.declared.mail.Body.TheVariants as body
@@ -76,8 +77,8 @@ changes_closed w new (event.Take l) x q c = subst (StaysClosed w) (sym c.1) (des
 changes_closed w new (event.Send l) x q c = subst (StaysClosed w) (sym c.1) (desk_closed w l sent_request (after_send w l).sent (λ p d t. t))
 changes_closed w new (event.Run request item choice) x q c = subst (StaysClosed w) (sym c.after) (record { epoch = (let z : w.config.epoch ≤ w.config.epoch = omega arith in z); closed = λ same p t. (refl, t) })
 changes_closed w new (event.Reply request picks) x q c = subst (StaysClosed w) (sym c.4.after) (desk_closed w c.0.lane (answered_desk c.0.number (outside.Items c.1)) (after_answer w request c.0 (outside.Items c.1)).sent (λ p d t. t))
-changes_closed w new (event.Whole request status) x q c = subst (StaysClosed w) (sym c.2.after) (desk_closed w c.0.lane (answered_desk c.0.number (outside.Whole status)) (after_answer w request c.0 (outside.Whole status)).sent (λ p d t. t))
-changes_closed w new (event.Lost request) x q c = subst (StaysClosed w) (sym c.2.after) (desk_closed w c.0.lane (answered_desk c.0.number outside.Lost) (after_answer w request c.0 outside.Lost).sent (λ p d t. t))
+changes_closed w new (event.Whole request status) x q c = subst (StaysClosed w) (sym c.2.after) (desk_closed w c.0.lane (answered_desk c.0.number (outside.Whole status None)) (after_answer w request c.0 (outside.Whole status None)).sent (λ p d t. t))
+changes_closed w new (event.Lost request) x q c = subst (StaysClosed w) (sym c.2.after) (desk_closed w c.0.lane (answered_desk c.0.number (outside.Lost loss.Closed)) (after_answer w request c.0 (outside.Lost loss.Closed)).sent (λ p d t. t))
 changes_closed w new (event.Restart epoch) x q c =
     let up = not_false _ (unrefused (not (is_above w epoch)) _ _ q).0 in
     let lt = ltb-true w.config.epoch epoch (and_left (nat_lt w.config.epoch epoch) (nat_le epoch 4194303) up) in

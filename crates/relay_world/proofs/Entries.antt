@@ -1,6 +1,6 @@
 -- The entries of a reply, gathered item by item.
 use Rattle.std.proofs.Common.{◌≡◌, ℕ, zero, suc, ◌+◌, List, [], ◌∷◌, ◌++◌, drop, Option, Some, None, refl, sym, ap, ◌∙◌, arith, append_assoc}
-use Rattle.std.specs.Prelude.{slice_get, option_map}
+use Rattle.std.specs.Prelude.{slice_get, option_map, is_some, true, false}
 use Rattle.relay_results.specs.declared.outcome.Outcome.{Outcome}
 use Rattle.relay_world.specs.State.{Item, World}
 use Rattle.relay_world.specs.Refusals.{entry_at, and_more, entries_from}
@@ -31,3 +31,20 @@ module _ (w : World) (l : ℕ) (picks : List ℕ) (place : ℕ) (items : List It
   went_on before e at some =
       ap (option_map (λ os. before ++ os)) (from_here at ∙ ap (λ y. and_more y (entries_from w l picks (place + 1) (drop (place + 1) items))) some)
       ∙ joined before e (entries_from w l picks (place + 1) (drop (place + 1) items))
+
+  some_and : (e : Option Outcome) (rest : Option (List Outcome)) → is_some e ≡ true → is_some (and_more e rest) ≡ is_some rest
+  some_and None rest t = absurd (cc)
+  some_and (Some e) None t = refl
+  some_and (Some e) (Some os) t = refl
+
+  none_and : (e : Option Outcome) (rest : Option (List Outcome)) → is_some e ≡ false → is_some (and_more e rest) ≡ false
+  none_and None rest t = refl
+  none_and (Some e) rest t = absurd (cc)
+
+  -- whether each item has its run, item by item
+  pub one_has_none : slice_get items place ≡ Some x → is_some (entry_at w l (slice_get picks place) x) ≡ false → is_some (entries_from w l picks place (drop place items)) ≡ false
+  one_has_none at t = ap is_some (from_here at) ∙ none_and (entry_at w l (slice_get picks place) x) (entries_from w l picks (place + 1) (drop (place + 1) items)) t
+
+  pub others_have : slice_get items place ≡ Some x → is_some (entry_at w l (slice_get picks place) x) ≡ true
+      → is_some (entries_from w l picks place (drop place items)) ≡ is_some (entries_from w l picks (place + 1) (drop (place + 1) items))
+  others_have at t = ap is_some (from_here at) ∙ some_and (entry_at w l (slice_get picks place) x) (entries_from w l picks (place + 1) (drop (place + 1) items)) t

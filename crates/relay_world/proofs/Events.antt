@@ -2,6 +2,7 @@
 use Rattle.std.proofs.Common.{◌≡◌, ◌≢◌, ℕ, zero, suc, ◌+◌, ◌-◌, ◌<◌, List, [], ◌∷◌, ◌++◌, length, Option, Some, None, Bool, true, false, ◌==◌, refl, sym, ap, ◌∙◌, subst, arith, append-nil}
 use Rattle.std.specs.Prelude.{slice_get, option_and_then, option_map, is_some, unwrap_or, not, ◌&&◌, nat_lt, nat_le, if◌then◌else◌}
 use borrow.Author.Tests.{ltb-false, ltb-true, leb-false, leb-true}
+use Rattle.relay_results.specs.declared.cause.Loss.TheVariants as loss
 use Rattle.relay_action.specs.declared.operation.Op.{Op}
 use Rattle.relay_action.specs.declared.mail.Mail.{Mail}
 use Rattle.relay_batch.specs.declared.item.BatchItem.{BatchItem}
@@ -244,9 +245,9 @@ machines_on w new (event.Reply request picks) x k q c =
     (λ m. entries_say w k.machines k.before k.tied (request - 1) c.0 picks c.1 (at_number w.sent request c.0 c.2) c.3)
 machines_on w new (event.Whole request status) x k q c =
     let f = flying_is w request c.0 _ _ c.1 q in
-    answers_keep w new k request c.0 (Whole status) x c.1 f.0 c.2 (not_ok status (not_false _ (unrefused (not (is_whole status)) _ _ f.1).0))
+    answers_keep w new k request c.0 (Whole status None) x c.1 f.0 c.2 (not_ok status (not_false _ (unrefused (not (is_whole status)) _ _ f.1).0))
 machines_on w new (event.Lost request) x k q c =
-    answers_keep w new k request c.0 Lost x c.1 (flying_is w request c.0 _ _ c.1 q).0 c.2 tt
+    answers_keep w new k request c.0 (Lost loss.Closed) x c.1 (flying_is w request c.0 _ _ c.1 q).0 c.2 tt
 machines_on w new (event.Restart epoch) x k q c =
     let up = not_false _ (unrefused (not (is_above w epoch)) _ _ q).0 in
     subst HasMachines (sym c.1) (restart_machines w k epoch (ltb-true w.config.epoch epoch (and_left (nat_lt w.config.epoch epoch) (nat_le epoch 4194303) up)))
@@ -294,8 +295,8 @@ stated_on w new (event.Run request item choice) x q on c all =
     (at_number w.sent request c.sent c.was_sent) (at_number c.sent.items item c.its_item c.stands)
     (states_one w.index (write_for c.op c.its_item.version) choice (may_choose_is choice (not_false _ may.0)) on) all)
 stated_on w new (event.Reply request picks) x q on c all = subst StatesVersions (sym c.4.after) (answer_stated w request c.0 (Items c.1) all)
-stated_on w new (event.Whole request status) x q on c all = subst StatesVersions (sym c.2.after) (answer_stated w request c.0 (Whole status) all)
-stated_on w new (event.Lost request) x q on c all = subst StatesVersions (sym c.2.after) (answer_stated w request c.0 Lost all)
+stated_on w new (event.Whole request status) x q on c all = subst StatesVersions (sym c.2.after) (answer_stated w request c.0 (Whole status None) all)
+stated_on w new (event.Lost request) x q on c all = subst StatesVersions (sym c.2.after) (answer_stated w request c.0 (Lost loss.Closed) all)
 stated_on w new (event.Restart epoch) x q on c all = subst StatesVersions (sym c.1) all
 
 pub steps_keep_tied : StepsKeepTied

@@ -1,5 +1,6 @@
 -- What each accepted event changes, and what it returns. Fields that are not named are unchanged.
 use Rattle.std.specs.Prelude.{◌≡◌, ℕ, ◌+◌, ◌-◌, List, [], ◌∷◌, ◌++◌, Option, Some, None, slice_get, unwrap_or, option_map, Bool, true, false, ◌&&◌, ◌||◌, length, map, replicate, if◌then◌else◌}
+use Rattle.relay_results.specs.declared.cause.Loss.TheVariants as loss
 use Rattle.relay_action.specs.Streams.{one_more}
 use Rattle.relay_action.specs.declared.key.DocKey.{DocKey}
 use Rattle.relay_action.specs.declared.action.Action.{Action}
@@ -143,8 +144,8 @@ after_answer w request s a = record (at_lane s.lane (answered_desk s.number a) w
 abbrev pub matched_by : Answer → List Write → Bool
 matched_by Unanswered ws = true
 matched_by (Items os) ws = matches os ws
-matched_by (Whole status) ws = true
-matched_by Lost ws = true
+matched_by (Whole status reason) ws = true
+matched_by (Lost why) ws = true
 
 -- a request in flight was answered, and the counts of how its operations ended are returned
 pub record Answers (w : World) (request : ℕ) (s : Sent) (a : Answer) (x : StepAnswer) (new : World) : Type 0 where
@@ -198,6 +199,6 @@ Changes w (event.Take l) x new = (x ≡ answer.Done) × (new ≡ at_lane l took_
 Changes w (event.Send l) x new = (x ≡ answer.Sent (length w.sent + 1)) × (new ≡ after_send w l)
 Changes w (event.Run request item c) x new = RunsItem w request item c x new
 Changes w (event.Reply request picks) x new = RepliesBy w request picks x new
-Changes w (event.Whole request status) x new = AnswersBy w request (Whole status) x new
-Changes w (event.Lost request) x new = AnswersBy w request Lost x new
+Changes w (event.Whole request status) x new = AnswersBy w request (Whole status None) x new
+Changes w (event.Lost request) x new = AnswersBy w request (Lost loss.Closed) x new
 Changes w (event.Restart epoch) x new = (x ≡ answer.Done) × (new ≡ after_restart w epoch)

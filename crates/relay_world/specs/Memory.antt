@@ -1,9 +1,12 @@
 -- The world as it is kept in memory, and what always holds of it.
-use Rattle.std.specs.Prelude.{◌≡◌, ℕ, ◌+◌, ◌<◌, List, [], ◌∷◌, Option, Some, None, option_map, slice_get, Bool, true, false, length}
+use Rattle.std.specs.Prelude.{◌≡◌, ℕ, ◌+◌, ◌<◌, List, [], ◌∷◌, Option, Some, None, option_map, slice_get, slice_set, slice_index_or, map, Bool, true, false, length}
+use Rattle.relay_results.specs.declared.cause.Loss.TheVariants as loss
 use Rattle.relay_action.specs.declared.operation.Op.{Op}
 use Rattle.relay_action.specs.declared.operation.OpName.{OpName}
 use Rattle.relay_action.specs.declared.write.Write.{Write}
 use Rattle.relay_action.specs.declared.mail.Mail.{Mail}
+use Rattle.relay_action.specs.declared.mail.Body.{Body}
+use Rattle.relay_action.specs.declared.mail.Body.TheVariants as body
 use Rattle.relay_batch.specs.declared.item.BatchItem.{BatchItem}
 use Rattle.relay_core.specs.declared.config.RelayConfig.{RelayConfig}
 use Rattle.relay_results.specs.Documents.{name_of, write_for}
@@ -27,8 +30,8 @@ run_outcome r = record { status = r.status; error = r.error }
 abbrev pub answer_of : Given → Answer
 answer_of Nothing = Unanswered
 answer_of (Entries os) = Items os.items
-answer_of (Status status) = Whole status
-answer_of Loss = Lost
+answer_of (Status status) = Whole status None
+answer_of Loss = Lost loss.Closed
 
 -- the name and the write are those of an item of a request
 pub record IsItemOf (w : World) (request item : ℕ) (name : OpName) (x : Write) : Type 0 where
@@ -58,9 +61,29 @@ abbrev pub AllBelow : ℕ → List (ℕ × List BatchItem) → Type 0
 AllBelow n [] = Unit {0}
 AllBelow n (b ∷ bs) = (b.0 < n) × AllBelow n bs
 
+-- which senders have closed after a message: a Done closes its sender
+abbrev pub closed_by : ℕ → Body → List Bool → List Bool
+closed_by sender (body.Put o) cs = cs
+closed_by sender body.Tick cs = cs
+closed_by sender body.Flush cs = cs
+closed_by sender body.Done cs = slice_set cs sender true
+
+-- ... and after messages one after another
+abbrev pub closed_after : List Mail → List Bool → List Bool
+closed_after [] cs = cs
+closed_after (m ∷ ms) cs = closed_after ms (closed_by m.sender m.body cs)
+
+-- the sender of each message has not closed before it
+abbrev pub AllOpenYet : List Mail → List Bool → Type 0
+AllOpenYet [] cs = Unit {0}
+AllOpenYet (m ∷ ms) cs = (slice_index_or cs m.sender false ≡ false) × AllOpenYet ms (closed_by m.sender m.body cs)
+
+-- a sender has closed there once the lane has taken its Done, or will have when it has taken what is queued
 pub record IsDesk (d : Desk) : Type 0 where
   pub known : AllKnown (length d.lane.closed) d.queue
   pub senders : length d.senders ≡ length d.lane.closed
+  pub open_yet : AllOpenYet d.queue d.lane.closed
+  pub closed : map (λ s. s.closed) d.senders ≡ closed_after d.queue d.lane.closed
   pub fresh : AllBelow d.lane.flights.next d.lane.flights.batches
 
 -- the sender is known there, and has not closed there

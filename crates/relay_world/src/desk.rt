@@ -21,8 +21,8 @@ use crate::request::{SentItem, SentRequest};
 use crate::sender::Sender;
 use relay_action::{Body, Mail, Op};
 use relay_batch::BatchItem;
-use relay_core::{Lane, NotFlying, RelayConfig, Report, Settled};
-use relay_results::Outcome;
+use relay_core::{Lane, NotFlying, RelayConfig, Report, Settled, TakeFault};
+use relay_results::{Loss, Outcome};
 use std::alloc::{AllocError, Global};
 use std::collections::VecDeque;
 use std::marker::Model;
@@ -289,7 +289,7 @@ impl Desk {
         ensures unchanged { OnErr result (self.new ≡ self.old) }
     {
         let Some(mail) = self.queue.front() else {
-            return Err(AllocError);
+            unreachable!();
         };
         let copy = Mail {
             sender: mail.sender,
@@ -297,8 +297,10 @@ impl Desk {
             body: copy_of(&mail.body)?,
         };
         self.taken.reserve(1)?;
-        if self.lane.take(copy).is_err() {
-            return Err(AllocError);
+        match self.lane.take(copy) {
+            Ok(()) => {}
+            Err((TakeFault::Memory, _)) => return Err(AllocError),
+            Err(_) => unreachable!(), // its sender has not closed, and the lane has room
         }
         if let Some(
             Mail {
@@ -334,24 +336,24 @@ impl Desk {
     // Settles a request whose reply was lost.
     pub(crate) fn lost(&mut self, number: u64) -> Result<Settled, NotFlying>
         ensures flies { is_ok result ≡ is_flying number self.old.lane }
-        ensures ok { OnOk result (self.new ≡ answered_desk number Lost self.old) }
-        ensures counts { IfOk result (λ c. AreCounts self.old.lane number Lost c) }
+        ensures ok { OnOk result (self.new ≡ answered_desk number (Lost Loss.Closed) self.old) }
+        ensures counts { IfOk result (λ c. AreCounts self.old.lane number (Lost Loss.Closed) c) }
         ensures matched { IfOk result (λ c. c.matched ≡ true) }
         ensures unchanged { OnErr result (self.new ≡ self.old) }
     {
-        self.lane.lost(number)
+        self.lane.lost(number, Loss::Closed)
     }
 
     // Settles a request that was answered as a whole with this status.
     pub(crate) fn whole(&mut self, number: u64, status: u16) -> Result<Settled, NotFlying>
         requires { status ≢ 200 }
         ensures flies { is_ok result ≡ is_flying number self.old.lane }
-        ensures ok { OnOk result (self.new ≡ answered_desk number (Whole status) self.old) }
-        ensures counts { IfOk result (λ c. AreCounts self.old.lane number (Whole status) c) }
+        ensures ok { OnOk result (self.new ≡ answered_desk number (Whole status None) self.old) }
+        ensures counts { IfOk result (λ c. AreCounts self.old.lane number (Whole status None) c) }
         ensures matched { IfOk result (λ c. c.matched ≡ true) }
         ensures unchanged { OnErr result (self.new ≡ self.old) }
     {
-        self.lane.whole(number, status)
+        self.lane.whole(number, status, None)
     }
 
     // Settles a request that was answered with these entries.

@@ -4,6 +4,7 @@ ghost use Rattle.std.specs.Prelude.{length, IfOk, IfErr, IfSome, OnErr};
 ghost use Rattle.relay_results.specs.Documents.{document_of};
 ghost use Rattle.relay_core.specs.Limits.{is_valid};
 ghost use Rattle.relay_core.specs.Walk.{report_of};
+ghost use Rattle.relay_world.specs.Refusals.{early_refusal};
 ghost use Rattle.relay_world.specs.State.{fresh, accepted_from, applied_writes, names_at, reports};
 ghost use Rattle.relay_world.specs.State.{write_at, is_finished, incarnations_of, AreKeysOf};
 ghost use Rattle.relay_delivery.specs.Incarnations.{accepted_in};
@@ -56,6 +57,7 @@ fn play(parts: &mut Parts, event: &Event) -> Result<StepAnswer, AllocError>
     ensures ok { IfOk result (λ x. Steps parts.old event.now x parts.new) }
     ensures unchanged { OnErr result (parts.new ≡ parts.old) }
     ensures memory { OnErr result (may_allocate event.now ≡ true) }
+    ensures early { OnErr result (early_refusal parts.old event.now ≡ None) }
 {
     match event {
         Event::Put(producer, key, action) => parts.put(*producer, key, action),
@@ -80,6 +82,8 @@ fn play_all(parts: &mut Parts, events: &[Event]) -> Result<RunEnd, (u64, AllocEr
     ensures unfinished { IfErr result (λ e. e.0 < length events.now) }
     ensures memory { IfErr result
         (λ e. IfSome (slice_get events.now e.0) (λ x. may_allocate x ≡ true)) }
+    ensures early { IfErr result (λ e. IfSome (slice_get events.now e.0)
+        (λ x. early_refusal parts.new x ≡ None)) }
 {
     let mut end = RunEnd {
         done: 0,
@@ -113,12 +117,14 @@ impl World {
     /// Plays one event. It is refused exactly if one of its causes applies, with the first that
     /// does, and changes nothing then; otherwise it changes what its rule says, and nothing else.
     /// Before and afterwards, all that was accepted is exactly accounted for. `AllocError`:
-    /// allocation failed; nothing changed. Answering a request as a whole, and losing its reply,
-    /// does not allocate.
+    /// allocation failed; nothing changed, and no cause of a refusal applied, but that a lane may
+    /// have had no request to send. Answering a request as a whole, and losing its reply, does not
+    /// allocate.
     pub fn step(&mut self, event: &Event) -> Result<StepAnswer, AllocError>
         ensures ok { IfOk result (λ x. Steps self.old event.now x self.new) }
         ensures unchanged { OnErr result (self.new ≡ self.old) }
         ensures memory { OnErr result (may_allocate event.now ≡ true) }
+        ensures early { OnErr result (early_refusal self.old event.now ≡ None) }
         ensures delivered { Delivered self.new }
         ensures closed { StaysClosed self.old self.new }
     {
@@ -137,6 +143,8 @@ impl World {
         ensures unfinished { IfErr result (λ e. e.0 < length events.now) }
         ensures memory { IfErr result
             (λ e. IfSome (slice_get events.now e.0) (λ x. may_allocate x ≡ true)) }
+        ensures early { IfErr result (λ e. IfSome (slice_get events.now e.0)
+            (λ x. early_refusal self.new x ≡ None)) }
         ensures delivered { Delivered self.new }
         ensures closed { StaysClosed self.old self.new }
     {

@@ -3,7 +3,7 @@ use crate::script::{THREE, accepts};
 use relay_action::{Action, Body, DocKey, List, Mail, Op, Write};
 use relay_core::{Lane, RelayConfig};
 use relay_index::{Choice, Index};
-use relay_results::Outcome;
+use relay_results::{Loss, Outcome};
 use relay_world::{Event, StepAnswer, World};
 use std::alloc::Global;
 use std::test::Fail;
@@ -229,7 +229,7 @@ fn already_by(
 /// run.
 fn lost_and_run(alloc: Global, lane: &mut Lane, index: &mut Index) -> Result<(u32, u32), Fail> {
     let first = next_of(lane);
-    if lane.lost(first).is_err() {
+    if lane.lost(first, Loss::Closed).is_err() {
         return Ok((0, 0));
     }
     lane.tick();

@@ -155,9 +155,10 @@ pub fn is_given(report: &Report, given: Given) -> bool {
         (Cause::Refused { status, .. }, Given::Refused(n, wanted)) => {
             number == n && *status == wanted
         }
-        (Cause::Request { status }, Given::Rejected(n, wanted)) => number == n && *status == wanted,
+        (Cause::Request { status, .. }, Given::Rejected(n, wanted)) => number == n
+            && *status == wanted,
         (Cause::Conflict { .. }, Given::Conflict(n)) => number == n,
-        (Cause::GaveUp { sends }, Given::GaveUp(n, wanted)) => number == n && *sends == wanted,
+        (Cause::GaveUp { sends, .. }, Given::GaveUp(n, wanted)) => number == n && *sends == wanted,
         (Cause::Spent, Given::Spent(n)) => number == n,
         _ => false,
     }

@@ -1,3 +1,4 @@
+use Rattle.std.proofs.Common.{None}
 use Rattle.relay_results.specs.Outside.{Whole}
 use Rattle.relay_core.proofs.Shown.{same_state}
 use Rattle.relay_world.specs.State.{Desk}
@@ -8,4 +9,4 @@ pub invariant_of-self : goal.invariant_of-self
 invariant_of-self c =
     let i = c.self.inside in
     let d : Desk = record { queue = i.queue.items; senders = i.senders.items; taken = i.taken.items; lane = i.lane.state } in
-    answer_keeps c.whole.result c.args.number (Whole c.args.status) d c.whole.new.self.state c.whole.ensures.ok (same_state c.whole.result c.self.inside.lane c.whole.new.self c.whole.ensures.unchanged) c.self.invariant
+    answer_keeps c.whole.result c.args.number (Whole c.args.status None) d c.whole.new.self.state c.whole.ensures.ok (same_state c.whole.result c.self.inside.lane c.whole.new.self c.whole.ensures.unchanged) c.self.invariant

@@ -1,4 +1,5 @@
 use Rattle.std.proofs.Common.{sym, ap, ◌∙◌, subst}
+use Rattle.relay_results.specs.declared.cause.Loss.TheVariants as loss
 use Rattle.relay_results.proofs.Lists.{at-within}
 use Rattle.relay_world.specs.State.{desk_at}
 use Rattle.relay_world.specs.Changes.{at_lane, answered_desk}
@@ -17,7 +18,7 @@ invariant_of-self c =
     let w = world_of i in
     let o : IsThere w c.args.lane = subst (λ x. IsThere x c.args.lane) (sym c.self.view_is) c.requires in
     let there = at_index i.desks.items c.args.lane c.index_mut.result.now (at-within i.desks.items c.args.lane o.desk o.there) c.index_mut.ensures.value in
-    parts_result c.lost.result w c.args.lane (answered_desk c.args.number Lost) c.index_mut.result.now c.lost.new.self there c.lost.ensures.ok c.lost.ensures.unchanged (answered_works w c.args.number Lost) c.self.invariant
+    parts_result c.lost.result w c.args.lane (answered_desk c.args.number (Lost loss.Closed)) c.index_mut.result.now c.lost.new.self there c.lost.ensures.ok c.lost.ensures.unchanged (answered_works w c.args.number (Lost loss.Closed)) c.self.invariant
 
 pub returns-clause-flies : goal.returns-clause-flies
 returns-clause-flies c =
@@ -33,8 +34,8 @@ returns-clause-ok c =
     let w = world_of i in
     let o : IsThere w c.args.lane = subst (λ x. IsThere x c.args.lane) (sym c.self.view_is) c.requires in
     let there = at_index i.desks.items c.args.lane c.index_mut.result.now (at-within i.desks.items c.args.lane o.desk o.there) c.index_mut.ensures.value in
-    on_ok c.lost.result _ _ (λ e. e ∙ ap (at_lane c.args.lane (answered_desk c.args.number Lost)) c.self.view_is)
-    (view_result c.lost.result w c.args.lane (answered_desk c.args.number Lost) c.index_mut.result.now c.lost.new.self there c.lost.ensures.ok)
+    on_ok c.lost.result _ _ (λ e. e ∙ ap (at_lane c.args.lane (answered_desk c.args.number (Lost loss.Closed))) c.self.view_is)
+    (view_result c.lost.result w c.args.lane (answered_desk c.args.number (Lost loss.Closed)) c.index_mut.result.now c.lost.new.self there c.lost.ensures.ok)
 
 pub returns-clause-counts : goal.returns-clause-counts
 returns-clause-counts c =

@@ -1,4 +1,4 @@
-use Rattle.std.proofs.Common.{sym, ap, ◌∙◌, subst}
+use Rattle.std.proofs.Common.{None, sym, ap, ◌∙◌, subst}
 use Rattle.relay_results.proofs.Lists.{at-within}
 use Rattle.relay_world.specs.State.{desk_at}
 use Rattle.relay_world.specs.Changes.{at_lane, answered_desk}
@@ -17,7 +17,7 @@ invariant_of-self c =
     let w = world_of i in
     let o : IsThere w c.args.lane = subst (λ x. IsThere x c.args.lane) (sym c.self.view_is) c.requires.there in
     let there = at_index i.desks.items c.args.lane c.index_mut.result.now (at-within i.desks.items c.args.lane o.desk o.there) c.index_mut.ensures.value in
-    parts_result c.whole.result w c.args.lane (answered_desk c.args.number (Whole c.args.status)) c.index_mut.result.now c.whole.new.self there c.whole.ensures.ok c.whole.ensures.unchanged (answered_works w c.args.number (Whole c.args.status)) c.self.invariant
+    parts_result c.whole.result w c.args.lane (answered_desk c.args.number (Whole c.args.status None)) c.index_mut.result.now c.whole.new.self there c.whole.ensures.ok c.whole.ensures.unchanged (answered_works w c.args.number (Whole c.args.status None)) c.self.invariant
 
 pub returns-clause-flies : goal.returns-clause-flies
 returns-clause-flies c =
@@ -33,8 +33,8 @@ returns-clause-ok c =
     let w = world_of i in
     let o : IsThere w c.args.lane = subst (λ x. IsThere x c.args.lane) (sym c.self.view_is) c.requires.there in
     let there = at_index i.desks.items c.args.lane c.index_mut.result.now (at-within i.desks.items c.args.lane o.desk o.there) c.index_mut.ensures.value in
-    on_ok c.whole.result _ _ (λ e. e ∙ ap (at_lane c.args.lane (answered_desk c.args.number (Whole c.args.status))) c.self.view_is)
-    (view_result c.whole.result w c.args.lane (answered_desk c.args.number (Whole c.args.status)) c.index_mut.result.now c.whole.new.self there c.whole.ensures.ok)
+    on_ok c.whole.result _ _ (λ e. e ∙ ap (at_lane c.args.lane (answered_desk c.args.number (Whole c.args.status None))) c.self.view_is)
+    (view_result c.whole.result w c.args.lane (answered_desk c.args.number (Whole c.args.status None)) c.index_mut.result.now c.whole.new.self there c.whole.ensures.ok)
 
 pub returns-clause-counts : goal.returns-clause-counts
 returns-clause-counts c =

@@ -1,5 +1,5 @@
 use Rattle.std.proofs.Common.{rules}
-use Rattle.relay_world.proofs.parts.may_choose.Goals as goal
+use Rattle.relay_world.proofs.parts.running.may_choose.Goals as goal
 
 pub returns-in-Refuse : goal.returns-in-Refuse
 returns-in-Refuse c = search rules
