@@ -15,8 +15,9 @@ use Rattle.relay_producer.specs.States.{ProducerState, ClosedProducerState, lane
 use Rattle.relay_producer.proofs.Putting.{put_more, same_marked}
 use Rattle.relay_producer.proofs.Closing.{put_kept}
 use Rattle.relay_threads.specs.Relay.{AreNew, new_producer}
-use Rattle.relay_threads.specs.DeliveryOfAll.{HavePut, AllDelivered}
+use Rattle.relay_threads.specs.DeliveryOfAll.{HavePut}
 use Rattle.relay_threads.specs.declared.fault.FinishFault.{FinishFault}
+use Rattle.relay_threads.specs.declared.summary.LaneSummary.{LaneSummary}
 use Rattle.relay_threads.specs.declared.summary.Summary.{Summary}
 use Rattle.relay_run.specs.declared.feed.FeedFault.{FeedFault}
 use Rattle.relay_run.specs.declared.feed.FeedFault.TheVariants as fault
@@ -244,8 +245,7 @@ module _ {S : Type 0} (left : S → Option (List ℕ)) (failed : S → ℕ) wher
       subst (λ l. AllEndFed left failed (map given_to l) cs fs) (sym (j.all ∙ ap (λ l. j.joined ++ l) none ∙ append-nil j.joined)) j.ended
 
 -- what `finish_telling` says of these operations, with the config and the wires of the start
-pub delivered_as : {W V : Type 0} (describes : W → Bool) (fits : W → Outside → Type 0) (c k : RelayConfig) (ws vs : List W) (puts : ℕ → List Op) (cs : List ClosedProducerState) (r : Result (Summary W × V) FinishFault)
-    → c ≡ k → ws ≡ vs → HavePut puts 0 cs → IfOk r (λ f. (all : ℕ → List Op) → HavePut all 0 cs → AllDelivered describes fits c all 0 ws f.0.lanes.items) → IfOk r (λ f. AllDelivered describes fits k puts 0 vs f.0.lanes.items)
-delivered_as {W = W} describes fits c k ws vs puts cs (Ok f) same wires h d =
-    subst (λ (x : RelayConfig × List W). AllDelivered describes fits x.0 puts 0 x.1 f.0.lanes.items) (λ i. (same i, wires i)) (d puts h)
-delivered_as describes fits c k ws vs puts cs (Err e) same wires h d = tt
+pub said_as : {W V : Type 0} (P : RelayConfig → (ℕ → List Op) → List W → List (LaneSummary W) → Type 0) (c k : RelayConfig) (ws vs : List W) (puts : ℕ → List Op) (cs : List ClosedProducerState) (r : Result (Summary W × V) FinishFault)
+    → c ≡ k → ws ≡ vs → HavePut puts 0 cs → IfOk r (λ f. (all : ℕ → List Op) → HavePut all 0 cs → P c all ws f.0.lanes.items) → IfOk r (λ f. P k puts vs f.0.lanes.items)
+said_as {W = W} P c k ws vs puts cs (Ok f) same wires h d = subst (λ (x : RelayConfig × List W). P x.0 puts x.1 f.0.lanes.items) (λ i. (same i, wires i)) (d puts h)
+said_as P c k ws vs puts cs (Err e) same wires h d = tt

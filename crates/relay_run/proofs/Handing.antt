@@ -5,7 +5,9 @@ use Rattle.relay_queue.specs.Ends.{Queue, fresh}
 use Rattle.relay_producer.specs.Ends.{open_end, open_puts, closed_puts, identities}
 use Rattle.relay_producer.specs.States.{ProducerState, ControlState, ClosedProducerState, ClosedControlState}
 use Rattle.relay_threads.specs.Relay.{AreNew, AreRows, NoneOut, new_control, ends_of, rows_of}
+use Rattle.relay_wires.specs.Carriers.{Carrier}
 use Rattle.relay_run.specs.Identities.{Identity, identity_of, identity_of_closed}
+use Rattle.relay_run.specs.Wires.{IsNewWire, AreNewWires}
 
 -- the ends of a sender that has sent nothing
 pub fresh_ends : (queues : List Queue) (p : ℕ) → identities (open_puts (map (λ q. open_end (fresh q p)) queues)) ≡ ends_of queues p
@@ -47,6 +49,11 @@ control_back queues n start after control is ticked closed =
 pub none_out_push : {W : Type 0} (out : W → List ℕ) (ws : List W) (w : W) → NoneOut out ws → out w ≡ [] → NoneOut out (ws ++ w ∷ [])
 none_out_push out [] w none e = (e, tt)
 none_out_push out (x ∷ ws) w none e = (none.0, none_out_push out ws w none.1 e)
+
+-- one more wire that has sent nothing
+pub new_wires_push : {P : Type 0} (host : List ℕ) (places : ℕ) (ws : List (Carrier P)) (w : Carrier P) → AreNewWires host places ws → IsNewWire host places w → AreNewWires host places (ws ++ w ∷ [])
+new_wires_push host places [] w all is = (is, tt)
+new_wires_push host places (x ∷ ws) w all is = (all.0, new_wires_push host places ws w all.1 is)
 
 -- the same of all producers
 pub rows_of_all : (queues : List Queue) (epoch n : ℕ) (ps : List ProducerState) (cs : List ClosedProducerState) (control : ClosedControlState) → n ≡ length ps → AreNew queues epoch 0 ps → map identity_of_closed cs ≡ map identity_of ps → identities (closed_puts control.ends) ≡ ends_of queues n → AreRows queues 0 (rows_of cs control)

@@ -12,3 +12,4 @@ pub mod Leasing
 pub mod Hints
 pub mod ReportFile
 pub mod Resolving
+pub mod Wires

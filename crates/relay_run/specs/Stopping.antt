@@ -18,11 +18,11 @@ abbrev pub at_limit : ℕ → ℕ → Option StopReason
 at_limit limit reported = if nat_lt 0 limit && nat_le limit reported then Some reason.Reports else None
 
 abbrev pub stop_by : Cause → Bool → ℕ → ℕ → Option StopReason
-stop_by (cause.Request status) false limit reported = if is_hopeless status then Some (reason.Hopeless status) else at_limit limit reported
-stop_by (cause.Request status) true limit reported = at_limit limit reported
+stop_by (cause.Request status why) false limit reported = if is_hopeless status then Some (reason.Hopeless status) else at_limit limit reported
+stop_by (cause.Request status why) true limit reported = at_limit limit reported
 stop_by (cause.Refused status kind text) applied limit reported = at_limit limit reported
 stop_by (cause.Conflict stored text) applied limit reported = at_limit limit reported
-stop_by (cause.GaveUp sends) applied limit reported = at_limit limit reported
+stop_by (cause.GaveUp sends tried) applied limit reported = at_limit limit reported
 stop_by cause.Spent applied limit reported = at_limit limit reported
 
 -- a reason as a number above 0

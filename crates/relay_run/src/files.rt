@@ -11,6 +11,7 @@ ghost use Rattle.relay_run.specs.Faults.{worse, file_fault, said_of, worse_by, f
 ghost use Rattle.relay_run.specs.Faults.{exit_of_files};
 ghost use Rattle.relay_run.specs.ReportFile.{AreNewHandles};
 ghost use Rattle.relay_run.specs.Saving.{AreNew};
+ghost use Rattle.relay_run.specs.Wires.{AreNewWires};
 ghost use Rattle.relay_run.specs.Saying.{IsSaid, exit_of_finish, SaysSummary, Concludes};
 ghost use Rattle.relay_run.specs.Sources.{named_count, standard_name, stands_apart};
 ghost use Rattle.relay_run.specs.Outcomes.{start_fault_text, kind_name, finish_fault_text, total};
@@ -147,7 +148,7 @@ fn make_dial(
     Ok(PatientDial::new(dial, rt, options.patience))
 }
 
-// A wire to the index for each lane, with this maximum number of requests in flight.
+// A wire to the index for each lane, with as many places in flight as the config has.
 fn make_wires(
     rt: HostRuntime,
     alloc: Global,
@@ -157,6 +158,8 @@ fn make_wires(
     requires { IsTrue (is_host (string_bytes options.now.to)) }
     ensures count { IfOk result (λ v. vec_len v ≡ options.now.config.lanes) }
     ensures out { IfOk result (λ v. NoneOut (λ w. numbers w.out) v.items) }
+    ensures new { IfOk result (λ v. AreNewWires (string_bytes options.now.to)
+        options.now.config.in_flight v.items) }
 {
     let to = options.to.as_str();
     let mut wires = Vec::new(alloc);

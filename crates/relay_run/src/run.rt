@@ -7,6 +7,7 @@ ghost use Rattle.relay_ndjson.specs.Operations.{Operation};
 ghost use Rattle.relay_queue.specs.Ends.{Queue};
 ghost use Rattle.relay_threads.specs.Relay.{NoneOut};
 ghost use Rattle.relay_threads.specs.DeliveryOfAll.{AllDelivered};
+ghost use Rattle.relay_threads.specs.Together.{AreDeliveredTogether};
 ghost use Rattle.relay_run.specs.Saving.{AreNew, AllSave, SayFailed};
 ghost use Rattle.relay_run.specs.Readers.{named_ops, AreFedFrom};
 
@@ -47,7 +48,9 @@ pub struct Ran<W, F: ByteOut> {
 /// For each producer there are operations that it was fed, those at the front of its reader, and
 /// its fault says why there were no more. If the relay ends with a summary, each lane took exactly
 /// those of them on its documents, and delivered them: soundly and completely for each outside that
-/// its wire fitted at the start. Without a summary there is no promise about what was delivered.
+/// its wire fitted at the start. Over all lanes no operation is reported twice, and one assignment
+/// of versions is used for all reports. Without a summary there is no promise about what was
+/// delivered.
 ///
 /// Each lane saves its reports by what it tells by, as soon as they arise. If the relay ends with a
 /// summary, the file of each lane was given the lines of exactly the reports of that lane, those of
@@ -88,6 +91,9 @@ where
         r.faults.items
         × IfOk r.end (λ s. AllDelivered W.describes W.fits config
         (λ p. named_ops config.epoch p 1 (ops p)) 0
+        wires.items s.lanes.items)
+        × IfOk r.end (λ s. AreDeliveredTogether W.describes W.fits config
+        (λ p. named_ops config.epoch p 1 (ops p))
         wires.items s.lanes.items)) }
     ensures saved { IfOk result (λ r. IfOk r.end (λ s. AllSave r.tells.items s.lanes.items)) }
     ensures unsaved { IfOk result (λ r. SayFailed r.tells.items r.unsaved) }

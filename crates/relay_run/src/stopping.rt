@@ -131,7 +131,7 @@ pub fn stop_by(cause: &Cause, applied: bool, limit: u64, reported: u64) -> Optio
     ensures { result ≡ stop_by cause.now applied limit reported }
 {
     match cause {
-        Cause::Request { status } if !applied && is_hopeless(*status) => {
+        Cause::Request { status, .. } if !applied && is_hopeless(*status) => {
             Some(StopReason::Hopeless { status: *status })
         }
         _ => at_limit(limit, reported),

@@ -22,7 +22,10 @@ fn cause_of(row: Row) -> Cause {
             stored: None,
             reason: None,
         },
-        Row::Rejected => Cause::Request { status: 400 },
+        Row::Rejected => Cause::Request {
+            status: 400,
+            reason: None,
+        },
     }
 }
 

@@ -1,4 +1,5 @@
-use Rattle.std.proofs.Common.{List, ap, sym, subst, ◌∙◌}
+use Rattle.std.proofs.Common.{ℕ, List, ap, sym, subst, ◌∙◌}
+use Rattle.relay_action.specs.declared.operation.Op.{Op}
 use Rattle.std.specs.declared.vec.Vec.{Vec}
 use Rattle.std.proofs.lemmas.Result.{err_from_is_err_and}
 use Rattle.relay_core.specs.declared.config.RelayConfig.{RelayConfig}
@@ -7,8 +8,9 @@ use Rattle.relay_run.specs.Readers.{named_ops}
 use Rattle.relay_run.specs.Handles.{Given, AllEndFed}
 use Rattle.relay_run.specs.Saving.{Saver, AllKeep, SayFailed}
 use Rattle.relay_threads.specs.DeliveryOfAll.{AllDelivered}
+use Rattle.relay_threads.specs.Together.{AreDeliveredTogether}
 use Rattle.relay_run.proofs.Handing.{rows_of_all, count_back, control_back}
-use Rattle.relay_run.proofs.Ending.{all_fed, fed_and_put, delivered_as}
+use Rattle.relay_run.proofs.Ending.{all_fed, fed_and_put, said_as}
 use Rattle.relay_run.proofs.Savers.{of_end, saves_at_end, counts_no_wires}
 use Rattle.relay_run.proofs.run.run.Goals as goal
 
@@ -46,13 +48,17 @@ returns-clause-delivered g c =
     let queues = c.in_ok-relay.relay.queues in
     let ended = subst (λ (gs : List (Given _)). AllEndFed left failed gs c.in_ok-closed.closed.items c.in_ok-closed.faults.items) c.in_ok-threads.ensures.given c.in_ok-closed.ensures in
     let all = all_fed left failed (bytes_given c.args.index) queues c.args.config.epoch 0 c.args.readers.items c.in_ok-relay.producers.items c.in_ok-closed.closed.items c.in_ok-closed.faults.items c.in_ok-relay.ensures.producers ended in
-    let x = fed_and_put left failed (bytes_given c.args.index) queues c.args.config.epoch c.args.readers.items c.in_ok-relay.producers.items c.in_ok-closed.closed.items c.in_ok-closed.faults.items all in (
+    let x = fed_and_put left failed (bytes_given c.args.index) queues c.args.config.epoch c.args.readers.items c.in_ok-relay.producers.items c.in_ok-closed.closed.items c.in_ok-closed.faults.items all in
+    let puts : ℕ → List Op = λ p. named_ops c.args.config.epoch p 1 (x.ops p) in
+    let each = said_as (λ k ps ws ls. AllDelivered g.W.Wire.describes g.W.Wire.fits k ps 0 ws ls) c.in_ok-relay.relay.config c.args.config c.in_ok-relay.relay.wires c.args.wires.items puts c.in_ok-closed.closed.items c.finish_telling.result c.in_ok-relay.ensures.config c.in_ok-relay.ensures.wires x.put c.finish_telling.ensures.delivered in
+    let together = said_as (AreDeliveredTogether g.W.Wire.describes g.W.Wire.fits) c.in_ok-relay.relay.config c.args.config c.in_ok-relay.relay.wires c.args.wires.items puts c.in_ok-closed.closed.items c.finish_telling.result c.in_ok-relay.ensures.config c.in_ok-relay.ensures.wires x.put c.finish_telling.ensures.together in (
       queues,
       x.ops,
       x.fed,
-      of_end (λ (v : Vec Saver _). v.items) (λ s. AllDelivered g.W.Wire.describes g.W.Wire.fits c.args.config (λ p. named_ops c.args.config.epoch p 1 (x.ops p)) 0 c.args.wires.items s.lanes.items)
-          c.finish_telling.result c.apart-end.result.0 c.apart-end.result.1.items c.apart-end.ensures.ok c.apart-end.ensures.err
-          (delivered_as g.W.Wire.describes g.W.Wire.fits c.in_ok-relay.relay.config c.args.config c.in_ok-relay.relay.wires c.args.wires.items (λ p. named_ops c.args.config.epoch p 1 (x.ops p)) c.in_ok-closed.closed.items c.finish_telling.result c.in_ok-relay.ensures.config c.in_ok-relay.ensures.wires x.put c.finish_telling.ensures.delivered),
+      of_end (λ (v : Vec Saver _). v.items) (λ s. AllDelivered g.W.Wire.describes g.W.Wire.fits c.args.config puts 0 c.args.wires.items s.lanes.items)
+          c.finish_telling.result c.apart-end.result.0 c.apart-end.result.1.items c.apart-end.ensures.ok c.apart-end.ensures.err each,
+      of_end (λ (v : Vec Saver _). v.items) (λ s. AreDeliveredTogether g.W.Wire.describes g.W.Wire.fits c.args.config puts c.args.wires.items s.lanes.items)
+          c.finish_telling.result c.apart-end.result.0 c.apart-end.result.1.items c.apart-end.ensures.ok c.apart-end.ensures.err together,
     )
 
 pub returns-clause-saved : goal.returns-clause-saved
