@@ -18,8 +18,8 @@ pub use relay_ndjson::{
 };
 // Replies and verdicts.
 pub use relay_results::{
-    Cause, DoneResult, ItemDone, ItemVerdict, Outcome, ReplyFault, matches, read_reply, verdict,
-    write_reply,
+    Cause, DoneResult, ErrorDetail, ItemDone, ItemVerdict, LastTry, Outcome, ReplyFault, matches,
+    read_refusal, read_reply, verdict, write_reply,
 };
 // The stand-in index.
 pub use relay_index::{Choice, Index, Script, ServeFault, may_refuse};
@@ -27,8 +27,8 @@ pub use relay_index::{Choice, Index, Script, ServeFault, may_refuse};
 pub use relay_batch::{Batch, BatchItem, Batcher, Limits, Offer, Room};
 pub use relay_flight::{Flight, Full, Request};
 pub use relay_lane::{
-    Lane, NotFlying, Pace, RelayConfig, Report, Settled, Success, TakeFault, Totals, Wire,
-    WireFault, WireReply, collect, drain, make_room, pass, pump, send_ready, settle_next,
+    Lane, Loss, NotFlying, Pace, RelayConfig, Report, Settled, Success, TakeFault, Totals, Wire,
+    WireReply, collect, drain, drain_next, make_room, pass, pump, send_ready, settle_next,
 };
 // HTTP/1.1, and the wires.
 pub use relay_http::{

@@ -70,7 +70,7 @@ impl Dial<MemStream> for Desk<'_> {
             Some(stream) => Ok(stream),
             None => {
                 self.failed = self.failed.saturating_add(1);
-                Err(DialFault)
+                Err(DialFault::Refused)
             }
         }
     }

@@ -4,7 +4,7 @@ ghost use Rattle.relay_results.specs.Verdicts.{is_sent_again, verdict_of};
 
 use crate::counts::{Counts, Shared};
 use relay_action::Write;
-use relay_lane::{Wire, WireFault, WireReply};
+use relay_lane::{Loss, Wire, WireReply};
 use relay_results::{ItemVerdict, Outcome, verdict};
 use std::alloc::Global;
 use std::marker::Model;
@@ -46,7 +46,7 @@ impl<W: Wire> Wire for CountedWire<W> {
 
     ghost fits = { λ w o. W.fits w o };
 
-    fn send(&mut self, number: u64, writes: &[Write]) -> Result<(), WireFault> {
+    fn send(&mut self, number: u64, writes: &[Write]) -> Result<(), Loss> {
         let result = self.wire.send(number, writes);
         if let Some(counts) = &self.counts {
             count_sent(
@@ -60,7 +60,7 @@ impl<W: Wire> Wire for CountedWire<W> {
         result
     }
 
-    fn receive(&mut self, number: u64) -> Result<WireReply, WireFault> {
+    fn receive(&mut self, number: u64) -> Result<WireReply, Loss> {
         let result = self.wire.receive(number);
         if let Some(counts) = &self.counts {
             count_received(counts, take_size(&mut self.sizes, number), &result);
@@ -98,13 +98,13 @@ fn take_size(sizes: &mut Vec<(u64, u64)>, number: u64) -> u64 {
 }
 
 // Counts the answer to a request with this many operations.
-fn count_received(counts: &Counts, operations: u64, came: &Result<WireReply, WireFault>) {
+fn count_received(counts: &Counts, operations: u64, came: &Result<WireReply, Loss>) {
     match came {
         Ok(WireReply::Items(outcomes)) => count_entries(counts, operations, outcomes),
-        Ok(WireReply::Whole(status)) if is_sent_again(*status, operations) => {
+        Ok(WireReply::Whole(status, _)) if is_sent_again(*status, operations) => {
             counts.add_answer(0, 0, operations);
         }
-        Ok(WireReply::Whole(_)) => counts.add_answer(0, operations, 0),
+        Ok(WireReply::Whole(_, _)) => counts.add_answer(0, operations, 0),
         Err(_) => counts.add_loss(operations),
     }
 }

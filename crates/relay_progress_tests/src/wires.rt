@@ -1,7 +1,7 @@
 //! Counted wires.
 use relay_fixtures::asking::{Told, asks};
 use relay_fixtures::index_wire::{Way, wire_of};
-use relay_lane::WireFault;
+use relay_lane::Loss;
 use relay_progress::{CountedWire, Counts, Shared};
 use std::alloc::Global;
 use std::sync::Arc;
@@ -68,14 +68,10 @@ const ROWS: &[(Way, Told, [u64; 7])] = &[
     (Way::Whole(502), Told::Whole(502), [1, 1, 1, 1, 0, 0, 1]),
     (Way::Whole(503), Told::Whole(503), [1, 1, 1, 1, 0, 0, 1]),
     (Way::Whole(504), Told::Whole(504), [1, 1, 1, 1, 0, 0, 1]),
+    (Way::Loses, Told::Fault(Loss::Closed), [1, 1, 0, 1, 0, 0, 1]),
     (
-        Way::Loses,
-        Told::Fault(WireFault::Lost),
-        [1, 1, 0, 1, 0, 0, 1],
-    ),
-    (
-        Way::FailsSend(1, WireFault::Send),
-        Told::Fault(WireFault::Send),
+        Way::FailsSend(1, Loss::Unreachable),
+        Told::Fault(Loss::Unreachable),
         [1, 1, 0, 1, 0, 0, 1],
     ),
 ];

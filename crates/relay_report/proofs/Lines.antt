@@ -7,7 +7,7 @@ use Rattle.serde_json.proofs.OnLiterals.{serde_json_on_literals}
 use Rattle.relay_results.specs.declared.cause.Cause.{Cause}
 use Rattle.relay_results.specs.declared.cause.Cause.TheVariants as cause
 use Rattle.relay_core.specs.declared.report.Report.{Report}
-use Rattle.relay_report.specs.Reports.{cause_name, kind_member, reason_member, sends_member, status_member, stored_member, report_data, report_line}
+use Rattle.relay_report.specs.Reports.{cause_name, kind_member, last_member, reason_member, sends_member, status_member, stored_member, report_data, report_line}
 use Rattle.relay_report.specs.Members.{and_cause, and_details, and_document, and_name}
 
 -- the members, by whether there is an epoch
@@ -24,9 +24,10 @@ chain zero epoch producer n index id c =
     (member (codes "id") (string id)
     (member (codes "index") (string index)
     (kind_member c
+    (last_member c
     (member (codes "number") (number (unsigned n))
     (member (codes "producer") (number (unsigned producer))
-    (reason_member c (sends_member c (status_member c (stored_member c no_members))))))))))
+    (reason_member c (sends_member c (status_member c (stored_member c no_members)))))))))))
 
 abbrev puts : Bool → ℕ → ℕ → ℕ → List ℕ → List ℕ → Cause → Members
 puts zero epoch producer n index id c =
@@ -38,21 +39,23 @@ puts-chain : (zero : Bool) (epoch producer n : ℕ) (index id : List ℕ) (c : C
 unfolding serde_json_on_literals
 puts-chain true epoch producer n index id (cause.Refused status kind None) = refl
 puts-chain true epoch producer n index id (cause.Refused status kind (Some reason)) = refl
-puts-chain true epoch producer n index id (cause.Request status) = refl
+puts-chain true epoch producer n index id (cause.Request status None) = refl
+puts-chain true epoch producer n index id (cause.Request status (Some reason)) = refl
 puts-chain true epoch producer n index id (cause.Conflict None None) = refl
 puts-chain true epoch producer n index id (cause.Conflict None (Some reason)) = refl
 puts-chain true epoch producer n index id (cause.Conflict (Some stored) None) = refl
 puts-chain true epoch producer n index id (cause.Conflict (Some stored) (Some reason)) = refl
-puts-chain true epoch producer n index id (cause.GaveUp sends) = refl
+puts-chain true epoch producer n index id (cause.GaveUp sends tried) = refl
 puts-chain true epoch producer n index id cause.Spent = refl
 puts-chain false epoch producer n index id (cause.Refused status kind None) = refl
 puts-chain false epoch producer n index id (cause.Refused status kind (Some reason)) = refl
-puts-chain false epoch producer n index id (cause.Request status) = refl
+puts-chain false epoch producer n index id (cause.Request status None) = refl
+puts-chain false epoch producer n index id (cause.Request status (Some reason)) = refl
 puts-chain false epoch producer n index id (cause.Conflict None None) = refl
 puts-chain false epoch producer n index id (cause.Conflict None (Some reason)) = refl
 puts-chain false epoch producer n index id (cause.Conflict (Some stored) None) = refl
 puts-chain false epoch producer n index id (cause.Conflict (Some stored) (Some reason)) = refl
-puts-chain false epoch producer n index id (cause.GaveUp sends) = refl
+puts-chain false epoch producer n index id (cause.GaveUp sends tried) = refl
 puts-chain false epoch producer n index id cause.Spent = refl
 
 -- the members that were put are those of the report
@@ -62,21 +65,23 @@ all_put r = ap object (puts-chain (r.name.epoch == 0) r.name.epoch r.name.produc
 chain-no_float : (zero : Bool) (epoch producer n : ℕ) (index id : List ℕ) (c : Cause) → has_float (object (chain zero epoch producer n index id c)) ≡ false
 chain-no_float true epoch producer n index id (cause.Refused status kind None) = refl
 chain-no_float true epoch producer n index id (cause.Refused status kind (Some reason)) = refl
-chain-no_float true epoch producer n index id (cause.Request status) = refl
+chain-no_float true epoch producer n index id (cause.Request status None) = refl
+chain-no_float true epoch producer n index id (cause.Request status (Some reason)) = refl
 chain-no_float true epoch producer n index id (cause.Conflict None None) = refl
 chain-no_float true epoch producer n index id (cause.Conflict None (Some reason)) = refl
 chain-no_float true epoch producer n index id (cause.Conflict (Some stored) None) = refl
 chain-no_float true epoch producer n index id (cause.Conflict (Some stored) (Some reason)) = refl
-chain-no_float true epoch producer n index id (cause.GaveUp sends) = refl
+chain-no_float true epoch producer n index id (cause.GaveUp sends tried) = refl
 chain-no_float true epoch producer n index id cause.Spent = refl
 chain-no_float false epoch producer n index id (cause.Refused status kind None) = refl
 chain-no_float false epoch producer n index id (cause.Refused status kind (Some reason)) = refl
-chain-no_float false epoch producer n index id (cause.Request status) = refl
+chain-no_float false epoch producer n index id (cause.Request status None) = refl
+chain-no_float false epoch producer n index id (cause.Request status (Some reason)) = refl
 chain-no_float false epoch producer n index id (cause.Conflict None None) = refl
 chain-no_float false epoch producer n index id (cause.Conflict None (Some reason)) = refl
 chain-no_float false epoch producer n index id (cause.Conflict (Some stored) None) = refl
 chain-no_float false epoch producer n index id (cause.Conflict (Some stored) (Some reason)) = refl
-chain-no_float false epoch producer n index id (cause.GaveUp sends) = refl
+chain-no_float false epoch producer n index id (cause.GaveUp sends tried) = refl
 chain-no_float false epoch producer n index id cause.Spent = refl
 
 pub no_float : (r : Report) → has_float (report_data r) ≡ false

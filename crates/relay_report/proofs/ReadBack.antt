@@ -16,24 +16,26 @@ read_back_bare : (epoch producer n : ℕ) (index id : List ℕ) (c : Cause) → 
 unfolding serde_json_on_literals
 read_back_bare epoch producer n index id (cause.Refused status kind None) p f = rw (f, p) refl
 read_back_bare epoch producer n index id (cause.Refused status kind (Some reason)) p f = rw (f, p) refl
-read_back_bare epoch producer n index id (cause.Request status) p f = rw (f, p) refl
+read_back_bare epoch producer n index id (cause.Request status None) p f = rw (f, p) refl
+read_back_bare epoch producer n index id (cause.Request status (Some reason)) p f = rw (f, p) refl
 read_back_bare epoch producer n index id (cause.Conflict None None) p f = rw p refl
 read_back_bare epoch producer n index id (cause.Conflict None (Some reason)) p f = rw p refl
 read_back_bare epoch producer n index id (cause.Conflict (Some stored) None) p f = rw p refl
 read_back_bare epoch producer n index id (cause.Conflict (Some stored) (Some reason)) p f = rw p refl
-read_back_bare epoch producer n index id (cause.GaveUp sends) p f = rw (f, p) refl
+read_back_bare epoch producer n index id (cause.GaveUp sends tried) p f = rw (f, p) refl
 read_back_bare epoch producer n index id cause.Spent p f = rw p refl
 
 read_back_epoch : (epoch producer n : ℕ) (index id : List ℕ) (c : Cause) → nat_lt epoch (2 ^ 32) ≡ true → nat_lt producer (2 ^ 32) ≡ true → CauseFits c → name_of (object (chain false epoch producer n index id c)) ≡ Some (record { epoch = epoch; producer = producer; number = n })
 unfolding serde_json_on_literals
 read_back_epoch epoch producer n index id (cause.Refused status kind None) e p f = rw (f, e, p) refl
 read_back_epoch epoch producer n index id (cause.Refused status kind (Some reason)) e p f = rw (f, e, p) refl
-read_back_epoch epoch producer n index id (cause.Request status) e p f = rw (f, e, p) refl
+read_back_epoch epoch producer n index id (cause.Request status None) e p f = rw (f, e, p) refl
+read_back_epoch epoch producer n index id (cause.Request status (Some reason)) e p f = rw (f, e, p) refl
 read_back_epoch epoch producer n index id (cause.Conflict None None) e p f = rw (e, p) refl
 read_back_epoch epoch producer n index id (cause.Conflict None (Some reason)) e p f = rw (e, p) refl
 read_back_epoch epoch producer n index id (cause.Conflict (Some stored) None) e p f = rw (e, p) refl
 read_back_epoch epoch producer n index id (cause.Conflict (Some stored) (Some reason)) e p f = rw (e, p) refl
-read_back_epoch epoch producer n index id (cause.GaveUp sends) e p f = rw (f, e, p) refl
+read_back_epoch epoch producer n index id (cause.GaveUp sends tried) e p f = rw (f, e, p) refl
 read_back_epoch epoch producer n index id cause.Spent e p f = rw (e, p) refl
 
 read_back_by : (zero : Bool) (epoch producer n : ℕ) (index id : List ℕ) (c : Cause) → (epoch == 0) ≡ zero → nat_lt epoch (2 ^ 32) ≡ true → nat_lt producer (2 ^ 32) ≡ true → CauseFits c → name_of (object (chain zero epoch producer n index id c)) ≡ Some (record { epoch = epoch; producer = producer; number = n })

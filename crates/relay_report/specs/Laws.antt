@@ -9,8 +9,8 @@ use Rattle.relay_report.specs.Naming.{name_of}
 -- the numbers in a cause and in a report are within their types
 abbrev pub CauseFits : Cause → Type 0
 CauseFits (cause.Refused status kind reason) = nat_lt status (2 ^ 16) ≡ true
-CauseFits (cause.Request status) = nat_lt status (2 ^ 16) ≡ true
-CauseFits (cause.GaveUp sends) = nat_lt sends (2 ^ 32) ≡ true
+CauseFits (cause.Request status reason) = nat_lt status (2 ^ 16) ≡ true
+CauseFits (cause.GaveUp sends tried) = nat_lt sends (2 ^ 32) ≡ true
 CauseFits other = Unit {0}
 
 abbrev pub ReportFits : Report → Type 0

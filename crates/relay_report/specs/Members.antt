@@ -5,7 +5,7 @@ use Rattle.relay_action.specs.declared.key.DocKey.{DocKey}
 use Rattle.relay_action.specs.declared.operation.OpName.{OpName}
 use Rattle.relay_results.specs.declared.cause.Cause.{Cause}
 use Rattle.relay_results.specs.declared.cause.Cause.TheVariants as cause
-use Rattle.relay_report.specs.Reports.{cause_name}
+use Rattle.relay_report.specs.Reports.{cause_name, last_word}
 
 abbrev pub and_epoch : ℕ → Members → Members
 and_epoch epoch ms = if epoch == 0 then ms else put (codes "epoch") (number (unsigned epoch)) ms
@@ -28,9 +28,10 @@ and_stored (Some stored) ms = put (codes "stored") (number (unsigned stored)) ms
 abbrev pub and_details : Cause → Members → Members
 and_details (cause.Refused status kind reason) ms =
     and_reason reason (put (codes "status") (number (unsigned status)) (put (codes "kind") (string kind) ms))
-and_details (cause.Request status) ms = put (codes "status") (number (unsigned status)) ms
+and_details (cause.Request status reason) ms = and_reason reason (put (codes "status") (number (unsigned status)) ms)
 and_details (cause.Conflict stored reason) ms = and_reason reason (and_stored stored ms)
-and_details (cause.GaveUp sends) ms = put (codes "sends") (number (unsigned sends)) ms
+and_details (cause.GaveUp sends tried) ms =
+    put (codes "last") (string (last_word tried)) (put (codes "sends") (number (unsigned sends)) ms)
 and_details other ms = ms
 
 abbrev pub and_cause : Cause → Members → Members

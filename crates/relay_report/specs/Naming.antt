@@ -23,14 +23,21 @@ status_of d = below (2 ^ 16) (number_at (codes "status") d)
 abbrev pub sends_of : Data → Option ℕ
 sends_of d = below (2 ^ 32) (number_at (codes "sends") d)
 
--- how many members there are for the reason, and for the stored version: one, which then has to be a string, or a
--- number; or none
+-- how many members there are for the reason, for what became of the last try, and for the stored version: one, which
+-- then has to be a string, a string, or a number; or none
 abbrev pub reason_by : Data → Option Data → Option ℕ
 reason_by d None = Some 0
 reason_by d (Some r) = option_map (λ reason. 1) (text_at (codes "reason") d)
 
 abbrev pub reason_count : Data → Option ℕ
 reason_count d = reason_by d (get (codes "reason") d)
+
+abbrev pub last_by : Data → Option Data → Option ℕ
+last_by d None = Some 0
+last_by d (Some w) = option_map (λ word. 1) (text_at (codes "last") d)
+
+abbrev pub last_count : Data → Option ℕ
+last_count d = last_by d (get (codes "last") d)
 
 abbrev pub stored_by : Data → Option Data → Option ℕ
 stored_by d None = Some 0
@@ -44,9 +51,9 @@ abbrev pub details_of : Data → List ℕ → Option ℕ
 details_of d cause =
     if bytes_eq cause (codes "Refused")
     then option_and_then (λ kind. option_and_then (λ status. option_map (λ reason. reason + 2) (reason_count d)) (status_of d)) (text_at (codes "kind") d)
-    else if bytes_eq cause (codes "Request") then option_map (λ status. 1) (status_of d)
+    else if bytes_eq cause (codes "Request") then option_and_then (λ status. option_map (λ reason. reason + 1) (reason_count d)) (status_of d)
     else if bytes_eq cause (codes "Conflict") then option_and_then (λ stored. option_map (λ reason. reason + stored) (reason_count d)) (stored_count d)
-    else if bytes_eq cause (codes "GaveUp") then option_map (λ sends. 1) (sends_of d)
+    else if bytes_eq cause (codes "GaveUp") then option_and_then (λ sends. option_map (λ tried. tried + 1) (last_count d)) (sends_of d)
     else if bytes_eq cause (codes "Spent") then Some 0
     else None
 

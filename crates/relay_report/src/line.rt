@@ -5,7 +5,7 @@ ghost use Rattle.serde_json.specs.Find.{as_str, as_u64, get};
 ghost use Rattle.serde_json.specs.View.{view};
 ghost use Rattle.relay_report.specs.Naming.{IsNamedBy, below, count_of, details_of, epoch_count};
 ghost use Rattle.relay_report.specs.Naming.{epoch_of, is_whole, name_of, number_at, reason_count};
-ghost use Rattle.relay_report.specs.Naming.{stored_count, text_at};
+ghost use Rattle.relay_report.specs.Naming.{last_count, stored_count, text_at};
 
 use relay_action::OpName;
 use serde_json::Value;
@@ -70,6 +70,17 @@ fn reason_count(value: &Value) -> Option<u64>
     }
 }
 
+// How many members there are for what became of the last try, if it is a string.
+fn last_count(value: &Value) -> Option<u64>
+    ensures count { result ≡ last_count (view value.now) }
+    ensures most { IfSome result (λ n. n ≤ 1) }
+{
+    match value.get("last") {
+        Some(_) => text_at(value, "last").map(|_| 1),
+        None => Some(0),
+    }
+}
+
 // How many members there are for a stored version, if it is a number.
 fn stored_count(value: &Value) -> Option<u64>
     ensures count { result ≡ stored_count (view value.now) }
@@ -92,6 +103,26 @@ fn refusal_count(value: &Value) -> Option<u64>
     Some(reason + 2)
 }
 
+// How many members describe a refusal of the whole request.
+fn rejection_count(value: &Value) -> Option<u64>
+    ensures count { result ≡ details_of (view value.now) (codes "Request") }
+    ensures most { IfSome result (λ n. n ≤ 2) }
+{
+    let _status = status_at(value)?;
+    let reason = reason_count(value)?;
+    Some(reason + 1)
+}
+
+// How many members describe that all tries are used up.
+fn give_up_count(value: &Value) -> Option<u64>
+    ensures count { result ≡ details_of (view value.now) (codes "GaveUp") }
+    ensures most { IfSome result (λ n. n ≤ 2) }
+{
+    let _sends = small_at(value, "sends")?;
+    let last = last_count(value)?;
+    Some(last + 1)
+}
+
 // How many members describe a conflict.
 fn conflict_count(value: &Value) -> Option<u64>
     ensures count { result ≡ details_of (view value.now) (codes "Conflict") }
@@ -109,9 +140,9 @@ fn details_in(value: &Value, cause: &str) -> Option<u64>
 {
     match cause {
         "Refused" => refusal_count(value),
-        "Request" => status_at(value).map(|_| 1),
+        "Request" => rejection_count(value),
         "Conflict" => conflict_count(value),
-        "GaveUp" => small_at(value, "sends").map(|_| 1),
+        "GaveUp" => give_up_count(value),
         "Spent" => Some(0),
         _ => None,
     }

@@ -1,14 +1,17 @@
 //! Reports as lines of JSON.
 ghost use Rattle.std.specs.Prelude.{◌≡◌, ◌++◌, IfOk, OnOk, OnErr, flat_map};
+ghost use Rattle.std.specs.Prelude.{codes, decimal, string_bytes};
 ghost use Rattle.serde_json.specs.Data.{string, number, unsigned, put as with_member};
 ghost use Rattle.serde_json.specs.View.{view, members_view};
 ghost use Rattle.relay_report.specs.Reports.{cause_name, report_data, report_line};
+ghost use Rattle.relay_report.specs.Reports.{loss_word, last_word};
 ghost use Rattle.relay_report.specs.Members.{and_cause, and_document, and_name, and_reason};
 ghost use Rattle.relay_report.specs.Members.{and_stored};
 
+use itoa::Buffer;
 use relay_action::{DocKey, OpName, Text};
 use relay_core::Report;
-use relay_results::Cause;
+use relay_results::{Cause, LastTry, Loss};
 use serde_json::{Map, Value, put};
 use std::alloc::{AllocError, Global};
 
@@ -143,6 +146,53 @@ fn add_reason(
     }
 }
 
+// The word for a loss.
+fn loss_word(loss: Loss) -> &'static str
+    ensures { result.now ≡ loss_word loss }
+{
+    match loss {
+        Loss::Refused => "refused",
+        Loss::Unreachable => "unreachable",
+        Loss::TimedOut => "timeout",
+        Loss::Closed => "closed",
+        Loss::Unreadable => "unreadable",
+        Loss::Memory => "memory",
+    }
+}
+
+// A word and a status.
+fn status_word(alloc: Global, word: &str, status: u16) -> Result<String, AllocError>
+    ensures { IfOk result (λ text. string_bytes text ≡ word.now ++ decimal status) }
+{
+    let mut digits = Buffer::new();
+    let mut text = String::new(alloc);
+    text.push_str(word)?;
+    text.push_str(digits.format(status as u64))?;
+    Ok(text)
+}
+
+// Adds the member for what became of the last try.
+fn add_last(
+    alloc: Global,
+    members: &mut Map<String, Value>,
+    last: LastTry,
+) -> Result<(), AllocError>
+    ensures { OnOk result (members_view members.new.entries
+        ≡ with_member (codes "last") (string (last_word last)) (members_view members.old.entries)) }
+{
+    match last {
+        LastTry::Lost(loss) => add_text(alloc, members, "last", loss_word(loss)),
+        LastTry::Whole(status) => {
+            let text = status_word(alloc, "status ", status)?;
+            add_text(alloc, members, "last", text.as_str())
+        }
+        LastTry::Item(status) => {
+            let text = status_word(alloc, "item ", status)?;
+            add_text(alloc, members, "last", text.as_str())
+        }
+    }
+}
+
 // Adds the member for a stored version, if there is one.
 fn add_stored(
     alloc: Global,
@@ -179,8 +229,14 @@ fn add_cause(
             add_number(alloc, members, "status", *status as u64)?;
             add_reason(alloc, members, reason)
         }
-        Cause::Request { status } => add_number(alloc, members, "status", *status as u64),
-        Cause::GaveUp { sends } => add_number(alloc, members, "sends", *sends as u64),
+        Cause::Request { status, reason } => {
+            add_number(alloc, members, "status", *status as u64)?;
+            add_reason(alloc, members, reason)
+        }
+        Cause::GaveUp { sends, last } => {
+            add_number(alloc, members, "sends", *sends as u64)?;
+            add_last(alloc, members, *last)
+        }
         Cause::Conflict { stored, reason } => {
             add_stored(alloc, members, *stored)?;
             add_reason(alloc, members, reason)

@@ -2,7 +2,7 @@
 use relay_action::{DocKey, OpName, Text};
 use relay_core::Report;
 use relay_report::report_text;
-use relay_results::Cause;
+use relay_results::{Cause, LastTry, Loss};
 use std::alloc::Global;
 
 // A report: its name as epoch, producer and number, its document, and the cause by name, with its
@@ -13,8 +13,29 @@ type Row = (
     (&'static str, u32, &'static str),
 );
 
-// The cause with a name. Explained is a refusal with a reason, Stated a conflict with one. `None`:
-// no cause has the name, or allocation failed.
+// What became of a last try, by its word.
+const LAST: &[(&str, LastTry)] = &[
+    ("refused", LastTry::Lost(Loss::Refused)),
+    ("unreachable", LastTry::Lost(Loss::Unreachable)),
+    ("timeout", LastTry::Lost(Loss::TimedOut)),
+    ("closed", LastTry::Lost(Loss::Closed)),
+    ("unreadable", LastTry::Lost(Loss::Unreadable)),
+    ("memory", LastTry::Lost(Loss::Memory)),
+    ("status 503", LastTry::Whole(503)),
+    ("item 429", LastTry::Item(429)),
+];
+
+fn last_of(word: &str) -> Option<LastTry> {
+    for (text, last) in LAST {
+        if *text == word {
+            return Some(*last);
+        }
+    }
+    None
+}
+
+// The cause with a name. Explained is a refusal with a reason, Rejected one of a whole request,
+// Stated a conflict with one. `None`: no cause has the name, or allocation failed.
 fn cause_of(alloc: Global, cause: (&str, u32, &str)) -> Option<Cause> {
     let (name, number, text) = cause;
     match name {
@@ -30,6 +51,11 @@ fn cause_of(alloc: Global, cause: (&str, u32, &str)) -> Option<Cause> {
         }),
         "Request" => Some(Cause::Request {
             status: number.min(599) as u16,
+            reason: None,
+        }),
+        "Rejected" => Some(Cause::Request {
+            status: number.min(599) as u16,
+            reason: Some(Text::new(alloc, text).ok()?),
         }),
         "Conflict" => Some(Cause::Conflict {
             stored: None,
@@ -39,7 +65,10 @@ fn cause_of(alloc: Global, cause: (&str, u32, &str)) -> Option<Cause> {
             stored: Some(number as u64),
             reason: Some(Text::new(alloc, text).ok()?),
         }),
-        "GaveUp" => Some(Cause::GaveUp { sends: number }),
+        "GaveUp" => Some(Cause::GaveUp {
+            sends: number,
+            last: last_of(text)?,
+        }),
         "Spent" => Some(Cause::Spent),
         _ => None,
     }
@@ -115,8 +144,48 @@ const ONE: &[(Row, &[u8])] = &[
         b"{\"cause\":\"Conflict\",\"epoch\":1,\"id\":\"x\",\"index\":\"b\",\"number\":6,\"producer\":0,\"reason\":\"[x]: version conflict, current version [9] is higher or equal to the one provided [7]\",\"stored\":9}\n",
     ),
     (
-        ((0, 1, 3), ("b", "a\"\n\\\x01"), ("GaveUp", 8, "")),
-        b"{\"cause\":\"GaveUp\",\"id\":\"a\\\"\\n\\\\\\u0001\",\"index\":\"b\",\"number\":3,\"producer\":1,\"sends\":8}\n",
+        ((0, 1, 3), ("b", "a\"\n\\\x01"), ("GaveUp", 8, "closed")),
+        b"{\"cause\":\"GaveUp\",\"id\":\"a\\\"\\n\\\\\\u0001\",\"index\":\"b\",\"last\":\"closed\",\"number\":3,\"producer\":1,\"sends\":8}\n",
+    ),
+    (
+        ((0, 0, 1), ("b", "x"), ("GaveUp", 8, "refused")),
+        b"{\"cause\":\"GaveUp\",\"id\":\"x\",\"index\":\"b\",\"last\":\"refused\",\"number\":1,\"producer\":0,\"sends\":8}\n",
+    ),
+    (
+        ((0, 0, 1), ("b", "x"), ("GaveUp", 3, "unreachable")),
+        b"{\"cause\":\"GaveUp\",\"id\":\"x\",\"index\":\"b\",\"last\":\"unreachable\",\"number\":1,\"producer\":0,\"sends\":3}\n",
+    ),
+    (
+        ((0, 0, 1), ("b", "x"), ("GaveUp", 3, "timeout")),
+        b"{\"cause\":\"GaveUp\",\"id\":\"x\",\"index\":\"b\",\"last\":\"timeout\",\"number\":1,\"producer\":0,\"sends\":3}\n",
+    ),
+    (
+        ((0, 0, 1), ("b", "x"), ("GaveUp", 3, "unreadable")),
+        b"{\"cause\":\"GaveUp\",\"id\":\"x\",\"index\":\"b\",\"last\":\"unreadable\",\"number\":1,\"producer\":0,\"sends\":3}\n",
+    ),
+    (
+        ((0, 0, 1), ("b", "x"), ("GaveUp", 3, "memory")),
+        b"{\"cause\":\"GaveUp\",\"id\":\"x\",\"index\":\"b\",\"last\":\"memory\",\"number\":1,\"producer\":0,\"sends\":3}\n",
+    ),
+    (
+        ((0, 0, 1), ("b", "x"), ("GaveUp", 8, "status 503")),
+        b"{\"cause\":\"GaveUp\",\"id\":\"x\",\"index\":\"b\",\"last\":\"status 503\",\"number\":1,\"producer\":0,\"sends\":8}\n",
+    ),
+    (
+        ((0, 0, 1), ("b", "x"), ("GaveUp", 8, "item 429")),
+        b"{\"cause\":\"GaveUp\",\"id\":\"x\",\"index\":\"b\",\"last\":\"item 429\",\"number\":1,\"producer\":0,\"sends\":8}\n",
+    ),
+    (
+        (
+            (0, 0, 7),
+            ("b", "x"),
+            (
+                "Rejected",
+                403,
+                "no permissions for [indices:data/write/bulk]",
+            ),
+        ),
+        b"{\"cause\":\"Request\",\"id\":\"x\",\"index\":\"b\",\"number\":7,\"producer\":0,\"reason\":\"no permissions for [indices:data/write/bulk]\",\"status\":403}\n",
     ),
     (
         ((1, 0, 4), ("b", "x"), ("Spent", 0, "")),

@@ -30,6 +30,22 @@ const LINES: &[(&[u8], Name)] = &[
         Some((0, 0, 2)),
     ),
     (
+        b"{\"cause\":\"GaveUp\",\"id\":\"1\",\"index\":\"b\",\"last\":\"timeout\",\"number\":2,\"producer\":0,\"sends\":8}",
+        Some((0, 0, 2)),
+    ),
+    (
+        b"{\"cause\":\"GaveUp\",\"id\":\"1\",\"index\":\"b\",\"last\":7,\"number\":2,\"producer\":0,\"sends\":8}",
+        None,
+    ),
+    (
+        b"{\"cause\":\"Request\",\"id\":\"1\",\"index\":\"b\",\"number\":2,\"producer\":0,\"reason\":\"denied\",\"status\":403}",
+        Some((0, 0, 2)),
+    ),
+    (
+        b"{\"cause\":\"Request\",\"id\":\"1\",\"index\":\"b\",\"number\":2,\"producer\":0,\"reason\":null,\"status\":403}",
+        None,
+    ),
+    (
         b"{\"cause\":\"Conflict\",\"id\":\"1\",\"index\":\"b\",\"number\":3,\"number\":2,\"producer\":0}",
         Some((0, 0, 2)),
     ),

@@ -24,7 +24,7 @@ document_text key = key.index ++ codes "/" ++ key.id
 -- the cause of a report: its name, and its details
 abbrev pub cause_text : Cause → List ℕ
 cause_text (cause.Refused status kind reason) = codes "Refused" ++ spaced_number status ++ codes " " ++ kind
-cause_text (cause.Request status) = codes "Request" ++ spaced_number status
+cause_text (cause.Request status reason) = codes "Request" ++ spaced_number status
 cause_text (cause.Conflict stored reason) = codes "Conflict"
-cause_text (cause.GaveUp sends) = codes "GaveUp" ++ spaced_number sends
+cause_text (cause.GaveUp sends tried) = codes "GaveUp" ++ spaced_number sends
 cause_text cause.Spent = codes "Spent"

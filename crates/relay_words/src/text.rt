@@ -124,12 +124,12 @@ fn append_cause(text: &mut Vec<u8>, cause: &Cause) -> Result<(), AllocError>
             text.extend_from_slice(b" ")?;
             text.extend_from_slice(kind.as_str().as_bytes())
         }
-        Cause::Request { status } => {
+        Cause::Request { status, .. } => {
             text.extend_from_slice(b"Request")?;
             add_spaced(text, *status as u64)
         }
         Cause::Conflict { .. } => text.extend_from_slice(b"Conflict"),
-        Cause::GaveUp { sends } => {
+        Cause::GaveUp { sends, .. } => {
             text.extend_from_slice(b"GaveUp")?;
             add_spaced(text, *sends as u64)
         }
