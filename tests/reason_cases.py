@@ -2,6 +2,7 @@
 import json
 import os
 import re
+import socket
 import tempfile
 import threading
 
@@ -9,7 +10,7 @@ from apply_cases import index
 from bulk_server import Server
 from program import case, check
 from run_cases import HINT, relay_run, written
-from stub_cases import Stub, answers
+from stub_cases import Stub, answers, free_port
 
 EPOCH = 2**40
 OPS = [("%d" % n, '{"n":%d}' % n) for n in range(5)]
@@ -119,6 +120,75 @@ def reasons():
         server.close()
 
 
+class Denied(Server):
+    """A server that answers each request with a status, and with this body."""
+
+    body = b""
+
+    def reply_with(self, stream, fault, whole, reply):
+        return self.send(stream, whole, self.body)
+
+
+def error_body(error):
+    return json.dumps({"error": error, "status": 418}).encode()
+
+
+def whole_reasons():
+    """The reason for the status of a whole request reaches the report on its first operation, and no other."""
+    denied = "missing authentication credentials for REST request [/_bulk]"
+    long = "a" * 511 + "\u00e9" + "b"
+    for body, reason in (
+        (error_body({"root_cause": [{"type": "security_exception", "reason": "another"}], "type": "security_exception", "reason": denied}), denied),
+        (error_body(denied), denied),
+        (error_body(long), "a" * 511),
+        (error_body({"type": "security_exception"}), None),
+        (error_body({"reason": 7}), None),
+        (error_body(None), None),
+        (b"<html><body>I am a teapot</body></html>", None),
+        (b"", None),
+    ):
+        server = Denied(lambda number: 418)
+        server.body = body
+        with tempfile.TemporaryDirectory() as folder:
+            report = os.path.join(folder, "report.ndjson")
+            done = relay_run(server.port, [written(folder, 0, OPS)], "--report", report)
+            found = reports_in(report)
+        wanted = [{"cause": "Request", "id": "%d" % n, "index": "books", "number": n + 1, "producer": 0, "status": 418} for n in range(5)]
+        firsts = [it for it in found if "reason" in it]
+        plain = [{name: it[name] for name in it if name != "reason"} for it in found]
+        requests = server.requests
+        check("a reason of a whole request: %.40r" % body, plain == wanted and done[0] == 5, (done, found))
+        check("the first of each request has it: %.40r" % body, [it["reason"] for it in firsts] == ([] if reason is None else [reason] * requests) and (reason is None or found[0] in firsts), (requests, found))
+        server.close()
+
+
+def last_words():
+    """A report on an operation that was given up says what became of the last request that carried it."""
+    silent = socket.create_server(("127.0.0.1", 0))
+    with tempfile.TemporaryDirectory() as folder:
+        path = written(folder, 0, OPS[:1])
+
+        def last(name, port, wanted, sends, *args):
+            report = os.path.join(folder, "report.ndjson")
+            done = relay_run(port, [path], "--attempts", "%d" % sends, "--report", report, *args)
+            found = reports_in(report)
+            os.remove(report)
+            gave_up = {"cause": "GaveUp", "id": "0", "index": "books", "last": wanted, "number": 1, "producer": 0, "sends": sends}
+            check("the last word: %s" % name, found == [gave_up] and done == (5, b"report 0:1 books/0 GaveUp %d\napplied 0 already 0 reported 1\n" % sends, b""), (done, found))
+
+        last("nobody listens", free_port(), "refused", 1)
+        last("nobody answers", silent.getsockname()[1], "timeout", 1, "--timeout", "1")
+        for fault, wanted in (("drop before", "closed"), ("drop after", "closed"), ("half", "closed"), ("garbage", "unreadable"), ("no items", "unreadable"), (429, "status 429"), (502, "status 502"), (503, "status 503"), (504, "status 504")):
+            server = Server(lambda number: 503 if number == 1 and fault != 503 else fault)
+            last("%s" % fault, server.port, wanted, 2)
+            server.close()
+        for status in (429, 503):
+            server = Server(refuse=lambda meta: status)
+            last("an item with %d" % status, server.port, "item %d" % status, 2)
+            server.close()
+    silent.close()
+
+
 def stand_ins():
     """With --reasons the stand-ins state the stored version, and without it they do not."""
     body = index(b"2", 9, b"{}") + index(b"2", 7, b"{}")
@@ -152,4 +222,4 @@ def world():
         case("world %s" % args, ["world", *args], SCRIPT, printed, b"", 0)
 
 
-GROUPS = (old_epochs, first_connection_refused, own_writes, hostile_ids, reasons, stand_ins, world)
+GROUPS = (old_epochs, first_connection_refused, own_writes, hostile_ids, reasons, whole_reasons, last_words, stand_ins, world)

@@ -41,7 +41,7 @@ def what_is_saved():
         path = written(folder, 0, [("1", None)])
         os.remove(report)
         done = relay_run(free_port(), [path], "--report", report, "--attempts", "1")
-        saved = b'{"cause":"GaveUp","id":"1","index":"books","number":1,"producer":0,"sends":1}\n'
+        saved = b'{"cause":"GaveUp","id":"1","index":"books","last":"refused","number":1,"producer":0,"sends":1}\n'
         check("what was given up", content(report) == saved and done[0] == 5, (done, content(report)))
         open(report, "w").close()
         server = Server(lambda number: 418)
@@ -116,7 +116,7 @@ def added():
     """With --append each line of the file is a whole line of a report afterwards: what an earlier run left torn is cut off."""
     with tempfile.TemporaryDirectory() as folder:
         path, report = written(folder, 0, [("1", "{}")]), os.path.join(folder, "report")
-        gave_up = b'{"cause":"GaveUp","id":"1","index":"books","number":1,"producer":0,"sends":1}\n'
+        gave_up = b'{"cause":"GaveUp","id":"1","index":"books","last":"refused","number":1,"producer":0,"sends":1}\n'
         other = b'{"cause":"Spent","id":"2","index":"books","number":7,"producer":0}\n'
         long = b"x" * 2_000_000
         for what, before, kept in (
@@ -200,6 +200,27 @@ def killed():
         server.close()
 
 
+def draining():
+    """A lane that has no more to take saves each report as it arises too: before the answer to the next request."""
+    with tempfile.TemporaryDirectory() as folder:
+        report, calls, released = os.path.join(folder, "report"), [], threading.Event()
+
+        def refuse(meta):
+            calls.append(meta)
+            if len(calls) == 2:
+                released.wait(60)
+            return 400
+
+        server = Server(refuse=refuse)
+        process = started(server.port, report, written(folder, 0, [("1", "{}")] * 3))
+        came = until(lambda: len(calls) == 2 and count_of(report) == 1, 20)
+        check("a report is saved while its lane drains", came and process.poll() is None, (calls, count_of(report)))
+        released.set()
+        out, err = process.communicate()
+        check("all reports of a lane that drained", named(content(report)) == [(0, n) for n in (1, 2, 3)] and (process.returncode, err) == (5, b""), (out, err))
+        server.close()
+
+
 def eight_lanes():
     """The lines of several lanes do not mix, each operation has one, and those of a document are in order."""
     with tempfile.TemporaryDirectory() as folder:
@@ -231,11 +252,11 @@ def a_pipe():
         process = started(free_port(), report, "--attempts", "1", "--linger", "0", "-")
         process.stdin.write(deletes([1]))
         process.stdin.flush()
-        gave_up = b'{"cause":"GaveUp","id":"%d","index":"books","number":%d,"producer":0,"sends":1}\n'
+        gave_up = b'{"cause":"GaveUp","id":"%d","index":"books","last":"refused","number":%d,"producer":0,"sends":1}\n'
         check("a pipe gets a report while the run goes on", until(lambda: came == [gave_up % (1, 1)]) and process.poll() is None, came)
         out, err = process.communicate(deletes([2]))
         reader.join()
         check("a pipe gets all reports", came == [gave_up % (n, n) for n in (1, 2)] and process.returncode == 5 and err == b"", (came, out, err))
 
 
-GROUPS = (what_is_saved, files_that_fail, files_of_another, added, killed, eight_lanes, a_pipe)
+GROUPS = (what_is_saved, files_that_fail, files_of_another, added, killed, draining, eight_lanes, a_pipe)
