@@ -76,6 +76,16 @@ def tried(crate):
     return done.returncode == 0 and bool(counts), "%s passed, %s failed" % counts[-1] if counts else "no result", done.stdout
 
 
+def example():
+    """Runs the example program, and returns whether it prints what it must."""
+    folder = os.path.join(CRATES, "relay_example")
+    words = ["rt", "try", "--seconds", "%d" % TEST_SECONDS]
+    done = subprocess.run(words, cwd=folder, stdin=subprocess.DEVNULL, stdout=subprocess.PIPE, stderr=subprocess.STDOUT, text=True, errors="replace")
+    with open(os.path.join(folder, "stdout"), encoding="utf-8") as file:
+        passed = done.returncode == 0 and file.read() in done.stdout
+    return passed, "prints what it must" if passed else "prints something else", done.stdout
+
+
 def suite(*words):
     """Runs a suite, and returns whether it passes, the last line that it prints, and the whole output."""
     words = [sys.executable, os.path.join(TESTS, words[0]), *words[1:]]
@@ -119,6 +129,7 @@ def main():
             built = pool.submit(told, "relay", build, program)
             suites = one.submit(beside, built, program)
             trials = [pool.submit(told, name, tried, name) for name in crates]
+            trials.append(pool.submit(told, "relay_example", example))
         results = [built.result(), *(it.result() for it in trials), *suites.result()]
         results += timed(program) if built.result() else []
     print("%d passed, %d failed, in %.0f minutes" % (sum(results), len(results) - sum(results), (time.monotonic() - began) / 60))
