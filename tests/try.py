@@ -1,10 +1,10 @@
 """Runs every test of the repository without proof: `make try` runs `python3 tests/try.py` at the top.
 
-Each test crate is built with run-time checks and run by `rt try --test`, as many at once as there are processors. `rt try` also
-builds the program so, and removes it when it ends: it is told to run `relay stub`, and while that waits for a connection the
-program is copied. The end-to-end suites run on the copy: those in which time does not matter beside the crates, and the others
-after them. With run-time checks the program is slow, so some of what `make test` does is left out: each suite says what. The last
-line is 'N passed, M failed', counted over the lines above.
+Each test crate is built with run-time checks and run by `rt try --test`, as many at once as there are processors, and so is the
+example program, whose output is compared. `rt try` also builds the program so, and removes it when it ends: it is told to run
+`relay stub`, and while that waits for a connection the program is copied. The end-to-end suites run on the copy: those in which
+time does not matter beside the crates, and the others after them. With run-time checks the program is slow, so some of what `make
+test` does is left out: each suite says what. The last line is 'N passed, M failed', counted over the lines above.
 """
 import concurrent.futures
 import os

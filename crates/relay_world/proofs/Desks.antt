@@ -2,6 +2,7 @@
 use Rattle.std.proofs.Common.{◌≡◌, ℕ, zero, suc, ◌+◌, ◌<◌, ◌≤◌, List, [], ◌∷◌, ◌++◌, length, Option, Some, None, Bool, true, false, refl, sym, ap, ◌∙◌, subst, arith}
 use Rattle.std.specs.Prelude.{slice_get, slice_set, slice_index_or, option_map, unwrap_or, filter, map, replicate, not, ◌||◌, ◌==◌, OnOk, OnErr, Result, is_some}
 use Rattle.std.specs.Map.{lookup}
+use Rattle.std.proofs.Math.Bool.{or-false}
 use Rattle.std.proofs.lemmas.List.{length-map, length-replicate}
 use Rattle.relay_action.specs.Streams.{one_more}
 use Rattle.relay_action.specs.declared.mail.Mail.{Mail}
@@ -50,10 +51,6 @@ open_among [] n e = absurd (cc)
 open_among (s ∷ ss) zero e = let same : s.closed ≡ false = cc in same
 open_among (s ∷ ss) (suc n) e = open_among ss n e
 
-or_false : (a : Bool) → (a || false) ≡ a
-or_false true = refl
-or_false false = refl
-
 closed_same : (n : ℕ) (f : Sender → Sender) (ss : List Sender) → ((s : Sender) → (f s).closed ≡ s.closed) → map (λ (s : Sender). s.closed) (update n f ss) ≡ map (λ (s : Sender). s.closed) ss
 closed_same n f [] same = refl
 closed_same zero f (s ∷ ss) same = ap (λ b. b ∷ map (λ (x : Sender). x.closed) ss) (same s)
@@ -65,9 +62,9 @@ closed_there zero (s ∷ ss) = ap (λ b. b ∷ map (λ (x : Sender). x.closed) s
 closed_there (suc n) (s ∷ ss) = ap (λ bs. s.closed ∷ bs) (closed_there n ss)
 
 closed_posted : (n : ℕ) (b : Body) (ss : List Sender) → map (λ (s : Sender). s.closed) (update n (after_mail b) ss) ≡ closed_by n b (map (λ (s : Sender). s.closed) ss)
-closed_posted n (body.Put o) ss = closed_same n (after_mail (body.Put o)) ss (λ s. or_false s.closed)
-closed_posted n body.Tick ss = closed_same n (after_mail body.Tick) ss (λ s. or_false s.closed)
-closed_posted n body.Flush ss = closed_same n (after_mail body.Flush) ss (λ s. or_false s.closed)
+closed_posted n (body.Put o) ss = closed_same n (after_mail (body.Put o)) ss (λ s. or-false s.closed)
+closed_posted n body.Tick ss = closed_same n (after_mail body.Tick) ss (λ s. or-false s.closed)
+closed_posted n body.Flush ss = closed_same n (after_mail body.Flush) ss (λ s. or-false s.closed)
 closed_posted n body.Done ss = closed_there n ss
 
 -- ---- at the start

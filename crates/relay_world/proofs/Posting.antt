@@ -2,6 +2,7 @@
 use Rattle.std.proofs.Common.{◌≡◌, ◌≢◌, ℕ, ◌+◌, List, [], ◌∷◌, ◌++◌, length, Option, Some, Bool, true, false, refl, sym, ap, ◌∙◌, subst, ⊎_elim, append_assoc, append-nil}
 use Rattle.std.specs.Prelude.{slice_get, option_map, unwrap_or, ◌||◌}
 use Rattle.std.specs.List.{list_any}
+use Rattle.std.proofs.Math.Bool.{or-false}
 use Rattle.relay_action.specs.declared.operation.Op.{Op}
 use Rattle.relay_action.specs.declared.mail.Mail.{Mail}
 use Rattle.relay_action.specs.declared.mail.Body.{Body}
@@ -29,16 +30,12 @@ puts-push : (ms : List Mail) (m : Mail) → puts_of (ms ++ m ∷ []) ≡ puts_of
 puts-push [] m = append-nil (ops_of m.body)
 puts-push (x ∷ ms) m = ap (λ os. ops_of x.body ++ os) (puts-push ms m) ∙ sym (append_assoc (ops_of x.body) (puts_of ms) (ops_of m.body))
 
-or_false : (a : Bool) → (a || false) ≡ a
-or_false true = refl
-or_false false = refl
-
 abbrev pub closed_in : Option Sender → Bool
 closed_in o = unwrap_or (option_map (λ (s : Sender). s.closed) o) false
 
 -- only a Done closes
 pub closed_posted : (p s : ℕ) (b : Body) (d : Desk) → is_done_mail b ≡ false → has_closed p (after_post s b d) ≡ has_closed p d
-closed_posted p s b d stays = seen_unmoved closed_in (after_mail b) s d.senders p (λ x. ap (λ t. x.closed || t) stays ∙ or_false x.closed)
+closed_posted p s b d stays = seen_unmoved closed_in (after_mail b) s d.senders p (λ x. ap (λ t. x.closed || t) stays ∙ or-false x.closed)
 
 -- its sender, and no other
 pub closed_done : (p s : ℕ) (d : Desk) → p ≢ s → has_closed p (after_post s body.Done d) ≡ has_closed p d

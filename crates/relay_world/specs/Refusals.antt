@@ -178,14 +178,5 @@ refusal w (event.Restart epoch) = restart_refusal w epoch
 -- The refusals that are known before anything is allocated: all but that a lane has no request to send, which shows only once
 -- its batch has been gathered.
 abbrev pub early_refusal : World → Event → Option Refusal
-early_refusal w (event.Put p key action) = put_refusal w p (lane_of w (document_of key))
-early_refusal w (event.Close p l) = close_refusal w p l
-early_refusal w (event.Tick l) = control_refusal w l
-early_refusal w (event.Flush l) = control_refusal w l
-early_refusal w (event.Take l) = take_refusal w l
 early_refusal w (event.Send l) = at_desk (desk_at w l) (λ d. None)
-early_refusal w (event.Run request item c) = run_refusal w request item c
-early_refusal w (event.Reply request picks) = reply_refusal w request picks
-early_refusal w (event.Whole request status) = whole_refusal w request status
-early_refusal w (event.Lost request) = lost_refusal w request
-early_refusal w (event.Restart epoch) = restart_refusal w epoch
+early_refusal w other = refusal w other
