@@ -329,7 +329,7 @@ def usage():
 
 
 def proxies():
-    """Through nginx and haproxy, as docs/OPERATING.md configures them."""
+    """Through nginx and haproxy, configured as in examples/proxies."""
     for kind in ("nginx", "haproxy"):
         if shutil.which(kind) is None or shutil.which("openssl") is None:
             print("SKIPPED: an epoch through %s, which is not installed" % kind)

@@ -1,4 +1,4 @@
-"""Runs through nginx, haproxy and stunnel, each with its configuration from docs/OPERATING.md, to a server over TLS. A proxy
+"""Runs through nginx, haproxy and stunnel, each with its configuration from examples/proxies, to a server over TLS. A proxy
 that is not installed is skipped, with a message. Each proxy is stopped through its own process."""
 import base64
 import os
@@ -48,22 +48,13 @@ class TlsServer(Server):
 
 
 def configuration(name):
-    """Returns the configuration in docs/OPERATING.md that begins with this comment."""
-    with open(os.path.join(TOP, "docs", "OPERATING.md"), encoding="utf-8") as file:
-        lines = iter(file.read().split("\n"))
-    found = []
-    for line in lines:
-        if line.strip() == "# " + name:
-            for line in lines:
-                if line.strip() and not line.startswith("    "):
-                    break
-                found.append(line[4:])
-            return "\n".join(found) + "\n"
-    raise ValueError("docs/OPERATING.md has no " + name)
+    """Returns the example configuration in this file."""
+    with open(os.path.join(TOP, "examples", "proxies", name), encoding="utf-8") as file:
+        return file.read()
 
 
 class Proxy:
-    """A proxy with the documented configuration, in which only the ports and the certificate are replaced."""
+    """A proxy with the example configuration, in which only the ports and the certificate are replaced."""
 
     def __init__(self, kind, folder, server, chain, change=lambda text: text):
         self.port = free_port()
