@@ -158,6 +158,9 @@ impl Wire for IndexWire {
 
     ghost fits = { λ w o. ⊥ };
 
+    // It says nothing of what passes.
+    ghost carries = { λ v x w. Unit {0} };
+
     fn send(&mut self, number: u64, writes: &[Write]) -> Result<(), Loss> {
         if self.flying.is_some() {
             return Err(Loss::Unreachable);

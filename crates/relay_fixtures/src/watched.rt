@@ -25,6 +25,8 @@ impl<W: Wire, V: Watch> Wire for Watched<W, V> {
 
     ghost fits = { λ w o. W.fits w.wire o };
 
+    ghost carries = { λ v x w. W.carries v.wire x w.wire };
+
     fn send(&mut self, number: u64, writes: &[Write]) -> Result<(), Loss> {
         self.watch.before_send(number);
         self.wire.send(number, writes)

@@ -15,9 +15,10 @@ use Rattle.relay_core.proofs.Tying.{chosen_sub}
 use Rattle.relay_results.specs.declared.cause.Loss.{Loss}
 use Rattle.relay_lane.specs.Turns.{Turn, Sends, Fails, Settles, Pauses, after_ticks, after_turn, after_turns, AllMayTurn, MayTurn, Worked}
 use Rattle.relay_lane.specs.Calls.{called_by, called_in, TurnIsCalls}
+use Rattle.relay_lane.specs.Exchanges.{Exchange}
 use Rattle.relay_lane.specs.Delivers.{Delivers, WorkedOn}
 use Rattle.relay_lane.proofs.Counting.{turns_after, turns_may}
-use Rattle.relay_lane.proofs.Carrying.{delivers_itself, delivers_on}
+use Rattle.relay_lane.proofs.Passing.{delivers_itself, delivers_on}
 
 -- ---- lists of calls
 
@@ -116,16 +117,16 @@ work_called going s t w numbers = subst (AreCalled w.turns s) (sym w.reached) (t
 
 -- ---- work on a wire
 
-module _ {S : Type 0} (d : Bool) (fits : S → Outside → Type 0) (going : Turn → State → Bool) where
-  pub worked_on_none : (w : S) (s : State) → WorkedOn d fits going w w s s
-  worked_on_none w s = record { worked = record { turns = []; may = tt; reached = refl }; delivers = delivers_itself d fits w w s s refl refl }
+module _ {S : Type 0} (d : Bool) (fits : S → Outside → Type 0) (carries : S → Exchange → S → Type 0) (going : Turn → State → Bool) where
+  pub worked_on_none : (w : S) (s : State) → WorkedOn d fits carries going w w s s
+  worked_on_none w s = record { worked = record { turns = []; may = tt; reached = refl }; delivers = delivers_itself d fits carries w w s s refl refl }
 
   -- one turn
-  pub worked_on_turn : (x : Turn) (v w : S) (s t : State) → going x s ≡ true → MayTurn x s → t ≡ after_turn x s → Delivers d fits v w s t (called_by x s) → WorkedOn d fits going v w s t
-  worked_on_turn x v w s t goes may e k = record { worked = record { turns = x ∷ []; may = (goes, may, tt); reached = e }; delivers = subst (λ cs. Delivers d fits v w s t cs) (sym (append-nil (called_by x s))) k }
+  pub worked_on_turn : (x : Turn) (v w : S) (s t : State) → going x s ≡ true → MayTurn x s → t ≡ after_turn x s → Delivers d fits carries v w s t (called_by x s) → WorkedOn d fits carries going v w s t
+  worked_on_turn x v w s t goes may e k = record { worked = record { turns = x ∷ []; may = (goes, may, tt); reached = e }; delivers = subst (λ cs. Delivers d fits carries v w s t cs) (sym (append-nil (called_by x s))) k }
 
   -- one after another
-  pub worked_on : (e : Bool) (u v w : S) (r s t : State) → e ≡ d → WorkedOn d fits going u v r s → WorkedOn e fits going v w s t → WorkedOn d fits going u w r t
+  pub worked_on : (e : Bool) (u v w : S) (r s t : State) → e ≡ d → WorkedOn d fits carries going u v r s → WorkedOn e fits carries going v w s t → WorkedOn d fits carries going u w r t
   worked_on e u v w r s t same a b =
       let ts = a.worked.turns in
       let us = b.worked.turns in
@@ -136,17 +137,17 @@ module _ {S : Type 0} (d : Bool) (fits : S → Outside → Type 0) (going : Turn
           may = turns_may going ts us r a.worked.may (subst (AllMayTurn going us) a.worked.reached b.worked.may);
           reached = b.worked.reached ∙ ap (after_turns us) a.worked.reached ∙ sym (turns_after ts us r);
         };
-        delivers = subst (λ cs. Delivers d fits u w r t cs) calls (delivers_on d e fits u v w r s t (called_in ts r) (called_in us s) same a.delivers b.delivers);
+        delivers = subst (λ cs. Delivers d fits carries u w r t cs) calls (delivers_on d e fits carries u v w r s t (called_in ts r) (called_in us s) same a.delivers b.delivers);
       }
 
   -- a turn more
-  pub worked_on_more : (x : Turn) (e : Bool) (u v w : S) (r s t : State) → e ≡ d → WorkedOn d fits going u v r s → going x s ≡ true → MayTurn x s → t ≡ after_turn x s → Delivers e fits v w s t (called_by x s) → WorkedOn d fits going u w r t
+  pub worked_on_more : (x : Turn) (e : Bool) (u v w : S) (r s t : State) → e ≡ d → WorkedOn d fits carries going u v r s → going x s ≡ true → MayTurn x s → t ≡ after_turn x s → Delivers e fits carries v w s t (called_by x s) → WorkedOn d fits carries going u w r t
   worked_on_more x e u v w r s t same a goes may is k =
-      worked_on e u v w r s t same a (record { worked = record { turns = x ∷ []; may = (goes, may, tt); reached = is }; delivers = subst (λ cs. Delivers e fits v w s t cs) (sym (append-nil (called_by x s))) k })
+      worked_on e u v w r s t same a (record { worked = record { turns = x ∷ []; may = (goes, may, tt); reached = is }; delivers = subst (λ cs. Delivers e fits carries v w s t cs) (sym (append-nil (called_by x s))) k })
 
   -- nothing more was called
-  pub worked_on_still : (e : Bool) (u v w : S) (r s t : State) → e ≡ d → WorkedOn d fits going u v r s → t ≡ s → Delivers e fits v w s t [] → WorkedOn d fits going u w r t
+  pub worked_on_still : (e : Bool) (u v w : S) (r s t : State) → e ≡ d → WorkedOn d fits carries going u v r s → t ≡ s → Delivers e fits carries v w s t [] → WorkedOn d fits carries going u w r t
   worked_on_still e u v w r s t same a is k = record {
     worked = record { turns = a.worked.turns; may = a.worked.may; reached = is ∙ a.worked.reached };
-    delivers = subst (λ cs. Delivers d fits u w r t cs) (append-nil (called_in a.worked.turns r)) (delivers_on d e fits u v w r s t (called_in a.worked.turns r) [] same a.delivers k);
+    delivers = subst (λ cs. Delivers d fits carries u w r t cs) (append-nil (called_in a.worked.turns r)) (delivers_on d e fits carries u v w r s t (called_in a.worked.turns r) [] same a.delivers k);
   }

@@ -21,7 +21,7 @@ use Rattle.relay_lane.specs.Wires.{IsRun, AreRuns, RunsOn, SendsOn, AnswersOn, E
 use Rattle.relay_lane.specs.Turns.{Pauses, after_send, after_ticks, after_fail}
 use Rattle.relay_lane.specs.Turns as turns
 use Rattle.relay_lane.specs.Calls.{called_by}
-use Rattle.relay_lane.specs.Delivers.{IsDelivered, GoesOn, Delivers}
+use Rattle.relay_lane.specs.Delivers.{IsDelivered, GoesOn, LeadsOn}
 
 -- ---- what is promised of each lane and outside that fit
 
@@ -68,12 +68,12 @@ explains_none o = ([], tt, refl)
 
 -- ---- nothing changed, and one after another
 
-pub delivers_itself : {S : Type 0} (d : Bool) (fits : S → Outside → Type 0) (v w : S) (s t : State) → w ≡ v → t ≡ s → Delivers d fits v w s t []
-delivers_itself d fits v w s t same_wire same d_true taken o f l =
+pub leads_itself : {S : Type 0} (d : Bool) (fits : S → Outside → Type 0) (v w : S) (s t : State) → w ≡ v → t ≡ s → LeadsOn d fits v w s t []
+leads_itself d fits v w s t same_wire same d_true taken o f l =
     goes_on fits w t taken [] o o (subst (λ x. fits x o) (sym same_wire) f) (continues_itself o) (explains_none o) (subst (λ x. Fits x taken o) (sym same) l)
 
-pub delivers_on : {S : Type 0} (d e : Bool) (fits : S → Outside → Type 0) (u v w : S) (r s t : State) (cs ds : List Call) → e ≡ d → Delivers d fits u v r s cs → Delivers e fits v w s t ds → Delivers d fits u w r t (cs ++ ds)
-delivers_on d e fits u v w r s t cs ds same a b d_true taken o f l =
+pub leads_on : {S : Type 0} (d e : Bool) (fits : S → Outside → Type 0) (u v w : S) (r s t : State) (cs ds : List Call) → e ≡ d → LeadsOn d fits u v r s cs → LeadsOn e fits v w s t ds → LeadsOn d fits u w r t (cs ++ ds)
+leads_on d e fits u v w r s t cs ds same a b d_true taken o f l =
     let x = a d_true taken o f l in
     let y = b (subst IsTrue (sym same) d_true) taken x.outside x.fitting x.lane in
     record {
@@ -90,8 +90,8 @@ delivers_on d e fits u v w r s t cs ds same a b d_true taken o f l =
 pub ticks_fit : (n : ℕ) (s : State) (taken : List Op) (o : Outside) → Fits s taken o → Fits (after_ticks n s) taken o
 ticks_fit n s taken o l = clock_fits s.core (s.core.clock + n) taken o l
 
-pub delivers_ticks : {S : Type 0} (d : Bool) (fits : S → Outside → Type 0) (w : S) (s t : State) (n : ℕ) → t ≡ after_ticks n s → Delivers d fits w w s t (called_by (Pauses n) s)
-delivers_ticks d fits w s t n e d_true taken o f l =
+pub leads_ticks : {S : Type 0} (d : Bool) (fits : S → Outside → Type 0) (w : S) (s t : State) (n : ℕ) → t ≡ after_ticks n s → LeadsOn d fits w w s t (called_by (Pauses n) s)
+leads_ticks d fits w s t n e d_true taken o f l =
     goes_on fits w t taken (called_by (Pauses n) s) o o f (continues_itself o) ([], tt, tt, ([], tt, refl)) (subst (λ x. Fits x taken o) (sym e) (ticks_fit n s taken o l))
 
 -- ---- one request
@@ -158,8 +158,8 @@ number_is_next s taken o l f = l.next ∙ ap (λ n. n + 1) (total_where s.core t
 
 module _ {S : Type 0} (d : Bool) (fits : S → Outside → Type 0) (v w : S) (s : State) (l : IsLane s) (items : List BatchItem) (some : next_batch s ≡ Some items) (ws : List Write) (are : ws ≡ writes_of_all (next_entries s)) where
   -- a request that was sent
-  pub delivers_send : (n : ℕ) → ShowsNext d fits v w s.flights.next (SendsOn ws) → Delivers d fits v w s (after_ticks n (after_send s)) (called_by (turns.Sends n) s)
-  delivers_send n shows d_true taken o f fit =
+  pub leads_send : (n : ℕ) → ShowsNext d fits v w s.flights.next (SendsOn ws) → LeadsOn d fits v w s (after_ticks n (after_send s)) (called_by (turns.Sends n) s)
+  leads_send n shows d_true taken o f fit =
       let x = shows d_true o f (number_is_next s taken o l fit) in
       let e = subst (λ us. SendsOn us o x.0) are x.2 in
       goes_on fits w (after_ticks n (after_send s)) taken (called_by (turns.Sends n) s) o x.0 x.1 (sends_continue (writes_of_all (next_entries s)) o x.0 e)
@@ -167,8 +167,8 @@ module _ {S : Type 0} (d : Bool) (fits : S → Outside → Type 0) (v w : S) (s 
       (ticks_fit n (after_send s) taken x.0 (runs_on (after_send s) taken (after (Sends (writes_of_all (next_entries s))) o) x.0 e.runs (request_fits s items taken o some fit)))
 
   -- ... and one that could not be sent
-  pub delivers_fail : (why : Loss) (n : ℕ) → ShowsNext d fits v w s.flights.next (ExchangesOn s.flights.next ws (Lost why)) → Delivers d fits v w s (after_fail why n s) (called_by (turns.Fails why n) s)
-  delivers_fail why n shows d_true taken o f fit =
+  pub leads_fail : (why : Loss) (n : ℕ) → ShowsNext d fits v w s.flights.next (ExchangesOn s.flights.next ws (Lost why)) → LeadsOn d fits v w s (after_fail why n s) (called_by (turns.Fails why n) s)
+  leads_fail why n shows d_true taken o f fit =
       let x = shows d_true o f (number_is_next s taken o l fit) in
       let e = subst (λ us. ExchangesOn s.flights.next us (Lost why) o x.0) are x.2 in
       let us = writes_of_all (next_entries s) in
@@ -179,9 +179,9 @@ module _ {S : Type 0} (d : Bool) (fits : S → Outside → Type 0) (v w : S) (s 
       (subst (Fits (after_fail why n s) taken) (sym e.answers.reached) (answer_fits (after_ticks n (after_send s)) s.flights.next (Lost why) taken e.answers.before (request_flies s l items some) e.answers.may ran))
 
 -- the answer to a request, after ticks
-pub delivers_answer : {S : Type 0} (d : Bool) (fits : S → Outside → Type 0) (v w : S) (s : State) (n number : ℕ) (a : Answer) → is_flying number s ≡ true → Shows d fits v w (AnswersOn number a)
-    → Delivers d fits v w s (after_answer_to (after_ticks n s) number a) (core.Ticks (s.core.clock + n) ∷ core.Answers number a ∷ [])
-delivers_answer d fits v w s n number a flies shows d_true taken o f fit =
+pub leads_answer : {S : Type 0} (d : Bool) (fits : S → Outside → Type 0) (v w : S) (s : State) (n number : ℕ) (a : Answer) → is_flying number s ≡ true → Shows d fits v w (AnswersOn number a)
+    → LeadsOn d fits v w s (after_answer_to (after_ticks n s) number a) (core.Ticks (s.core.clock + n) ∷ core.Answers number a ∷ [])
+leads_answer d fits v w s n number a flies shows d_true taken o f fit =
     let x = shows d_true o f in
     let t = after_ticks n s in
     let ran = runs_on t taken o x.2.before x.2.runs (ticks_fit n s taken o fit) in

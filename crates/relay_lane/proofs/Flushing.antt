@@ -10,6 +10,7 @@ use Rattle.relay_delivery.specs.Lane.{Entry}
 use Rattle.relay_core.specs.State.{State, IsLane, next_batch, after_request, after_flush, mark_of}
 use Rattle.relay_lane.specs.Turns.{Turn, Sends, Fails, Settles, Pauses, after_turn, after_turns, AllMayTurn, Worked, holds, holds_some, is_full, sends_first}
 use Rattle.relay_lane.specs.Steps.{IsPressed}
+use Rattle.relay_lane.specs.Exchanges.{Exchange}
 use Rattle.relay_lane.specs.Delivers.{TookTurn, WorkedOn}
 use Rattle.relay_lane.proofs.Waiting.{within_test}
 
@@ -58,16 +59,16 @@ all_full n (t ∷ ts) s e may = (
   all_full n ts (after_turn t s) (e ∙ sym (ap (λ (c : RelayConfig). c.max_held) (turn_config t s))) may.2,
 )
 
-pub worked_full : {S : Type 0} (d : Bool) (fits : S → Outside → Type 0) (v w : S) (n : ℕ) (s t : State) → n ≡ s.config.max_held → WorkedOn d fits (holds n) v w s t → WorkedOn d fits is_full v w s t
-worked_full d fits v w n s t e x = record { worked = record { turns = x.worked.turns; may = all_full n x.worked.turns s e x.worked.may; reached = x.worked.reached }; delivers = x.delivers }
+pub worked_full : {S : Type 0} (d : Bool) (fits : S → Outside → Type 0) (carries : S → Exchange → S → Type 0) (v w : S) (n : ℕ) (s t : State) → n ≡ s.config.max_held → WorkedOn d fits carries (holds n) v w s t → WorkedOn d fits carries is_full v w s t
+worked_full d fits carries v w n s t e x = record { worked = record { turns = x.worked.turns; may = all_full n x.worked.turns s e x.worked.may; reached = x.worked.reached }; delivers = x.delivers }
 
 all_some : (ts : List Turn) (s : State) → AllMayTurn (holds 1) ts s → AllMayTurn holds_some ts s
 all_some [] s may = tt
 all_some (t ∷ ts) s may = (may.0, may.1, all_some ts (after_turn t s) may.2)
 
-pub worked_some : {S : Type 0} (d : Bool) (fits : S → Outside → Type 0) (v w : S) (s t : State) → WorkedOn d fits (holds 1) v w s t → WorkedOn d fits holds_some v w s t
-worked_some d fits v w s t x = record { worked = record { turns = x.worked.turns; may = all_some x.worked.turns s x.worked.may; reached = x.worked.reached }; delivers = x.delivers }
+pub worked_some : {S : Type 0} (d : Bool) (fits : S → Outside → Type 0) (carries : S → Exchange → S → Type 0) (v w : S) (s t : State) → WorkedOn d fits carries (holds 1) v w s t → WorkedOn d fits carries holds_some v w s t
+worked_some d fits carries v w s t x = record { worked = record { turns = x.worked.turns; may = all_some x.worked.turns s x.worked.may; reached = x.worked.reached }; delivers = x.delivers }
 
 -- a turn of a lane that holds something
-pub took_some : {S : Type 0} (d : Bool) (fits : S → Outside → Type 0) (v w : S) (s t : State) → 0 < length s.core.held → TookTurn d fits sends_first v w s t → TookTurn d fits holds_some v w s t
-took_some d fits v w s t some x = record { turn = x.turn; goes = and_both (nat_le 1 (length s.core.held)) (sends_first x.turn s) (within_test 1 (length s.core.held) (omega (arith, some))) x.goes; may = x.may; reached = x.reached; delivers = x.delivers }
+pub took_some : {S : Type 0} (d : Bool) (fits : S → Outside → Type 0) (carries : S → Exchange → S → Type 0) (v w : S) (s t : State) → 0 < length s.core.held → TookTurn d fits carries sends_first v w s t → TookTurn d fits carries holds_some v w s t
+took_some d fits carries v w s t some x = record { turn = x.turn; goes = and_both (nat_le 1 (length s.core.held)) (sends_first x.turn s) (within_test 1 (length s.core.held) (omega (arith, some))) x.goes; may = x.may; reached = x.reached; delivers = x.delivers }

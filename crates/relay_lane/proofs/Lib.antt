@@ -5,6 +5,8 @@ pub mod Waiting
 pub mod Ticking
 pub mod Sending
 pub mod Carrying
+pub mod Passing
+pub mod Returning
 pub mod Flushing
 pub mod Counting
 pub mod Calling

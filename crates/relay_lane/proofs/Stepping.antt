@@ -14,13 +14,14 @@ use Rattle.relay_results.specs.declared.cause.Loss.{Loss}
 use Rattle.relay_lane.specs.Turns.{Turn, Sends, Fails, Settles, Pauses, after_send, after_fail, after_answer, after_ticks, after_turn, MayTurn, Paused, Passed, sends_in, ticks_in, pumps, sends_only, sends_first, sends_left}
 use Rattle.relay_lane.specs.Calls.{called_by}
 use Rattle.relay_lane.specs.Steps.{Asked, Settled, IsPressed, Progressed}
+use Rattle.relay_lane.specs.Exchanges.{Exchange}
 use Rattle.relay_lane.specs.Delivers.{Delivers}
 use Rattle.relay_lane.specs.Laws.{Keeps}
 use Rattle.relay_lane.proofs.Limits.{valid_limits}
 use Rattle.relay_lane.proofs.Out.{oldest_is, oldest_number, flying_first, one_fewer, one_gone, flying_more, flying_again}
 use Rattle.relay_lane.proofs.Sends.{request_takes, fail_takes, left_answered, from_sent, from_answered}
 use Rattle.relay_lane.proofs.Counting.{some_batch, stays_as, turn_keeps, left_at_most}
-use Rattle.relay_lane.proofs.Carrying.{delivers_on}
+use Rattle.relay_lane.proofs.Passing.{delivers_on}
 use Rattle.relay_lane.proofs.Ticking.{min_low, min_high}
 
 -- ---- what follows from each turn of a loop
@@ -92,32 +93,32 @@ fails_turned why n s t l some e =
     }
 
 -- a request was sent, or could not be
-pub record Sent {S : Type 0} (d : Bool) (fits : S → Outside → Type 0) (old new : S) (s t : State) : Type 0 where
+pub record Sent {S : Type 0} (d : Bool) (fits : S → Outside → Type 0) (carries : S → Exchange → S → Type 0) (old new : S) (s t : State) : Type 0 where
   pub turn : Turn
   pub turned : Turned turn s t
   pub one : sends_in turn ≡ 1
   pub may_pump : pumps turn s ≡ true
   pub may_send : sends_only turn s ≡ true
   pub goes_first : sends_first turn s ≡ true
-  pub delivers : Delivers d fits old new s t (called_by turn s)
+  pub delivers : Delivers d fits carries old new s t (called_by turn s)
 
-module _ {S : Type 0} (d : Bool) (fits : S → Outside → Type 0) (old new : S) where
-  sent_by : (turn : Turn) (s t : State) → IsLane s → is_some (next_batch s) ≡ true → sends_in turn ≡ 1 → t ≡ after_turn turn s → Delivers d fits old new s t (called_by turn s) → Sent d fits old new s t
+module _ {S : Type 0} (d : Bool) (fits : S → Outside → Type 0) (carries : S → Exchange → S → Type 0) (old new : S) where
+  sent_by : (turn : Turn) (s t : State) → IsLane s → is_some (next_batch s) ≡ true → sends_in turn ≡ 1 → t ≡ after_turn turn s → Delivers d fits carries old new s t (called_by turn s) → Sent d fits carries old new s t
   sent_by (Sends n) s t l some one e k = record { turn = Sends n; turned = sends_turned n s t l some e; one = refl; may_pump = refl; may_send = refl; goes_first = refl; delivers = k }
   sent_by (Fails why n) s t l some one e k = record { turn = Fails why n; turned = fails_turned why n s t l some e; one = refl; may_pump = refl; may_send = refl; goes_first = refl; delivers = k }
   sent_by (Settles n a) s t l some one e k = absurd (cc)
   sent_by (Pauses n) s t l some one e k = absurd (cc)
 
-  pub asked_sent : (b : Bool) (s t : State) → IsLane s → b ≡ is_some (next_batch s) → b ≡ true → Asked d fits old new b s t → Sent d fits old new s t
+  pub asked_sent : (b : Bool) (s t : State) → IsLane s → b ≡ is_some (next_batch s) → b ≡ true → Asked d fits carries old new b s t → Sent d fits carries old new s t
   asked_sent b s t l some is asked =
-      let a = subst (λ c. Asked d fits old new c s t) is asked in
+      let a = subst (λ c. Asked d fits carries old new c s t) is asked in
       sent_by a.0 s t l (sym some ∙ is) a.1 a.2 a.3
 
-  pub not_asked : (b : Bool) (s t : State) → b ≡ false → Asked d fits old new b s t → t ≡ s
-  not_asked b s t e x = (subst (λ c. Asked d fits old new c s t) e x).0
+  pub not_asked : (b : Bool) (s t : State) → b ≡ false → Asked d fits carries old new b s t → t ≡ s
+  not_asked b s t e x = (subst (λ c. Asked d fits carries old new c s t) e x).0
 
-  pub not_called : (b : Bool) (s t : State) → b ≡ false → Asked d fits old new b s t → Delivers d fits old new s t []
-  not_called b s t e x = (subst (λ c. Asked d fits old new c s t) e x).1
+  pub not_called : (b : Bool) (s t : State) → b ≡ false → Asked d fits carries old new b s t → Delivers d fits carries old new s t []
+  not_called b s t e x = (subst (λ c. Asked d fits carries old new c s t) e x).1
 
 -- the oldest was answered
 answered_turned : (n : ℕ) (s t : State) (a : Answer) → IsLane (after_ticks n s) → 0 < length s.core.flying → a ≢ Unanswered → t ≡ after_answer a (after_ticks n s) → Turned (Settles n a) s t
@@ -139,11 +140,11 @@ answered_turned n s t a l some answers e =
       pressed = λ p. subst IsPressed (sym (e ∙ at)) (pressed_as s (after_answer_to u k.0 a) refl refl (from_answered u k.0 a) p);
     }
 
-module _ {S : Type 0} (d : Bool) (fits : S → Outside → Type 0) (old new : S) where
-  pub settles_turned : (s t : State) (x : Settled d fits old new s t) → 0 < length s.core.flying → Turned (Settles x.ticks x.answer) s t
+module _ {S : Type 0} (d : Bool) (fits : S → Outside → Type 0) (carries : S → Exchange → S → Type 0) (old new : S) where
+  pub settles_turned : (s t : State) (x : Settled d fits carries old new s t) → 0 < length s.core.flying → Turned (Settles x.ticks x.answer) s t
   settles_turned s t x some = answered_turned x.ticks s t x.answer x.lane some x.answers x.reached
 
-  pub settled_one : (s t : State) (x : Settled d fits old new s t) → 0 < length s.core.flying → length s.core.flying ≡ length t.core.flying + 1
+  pub settled_one : (s t : State) (x : Settled d fits carries old new s t) → 0 < length s.core.flying → length s.core.flying ≡ length t.core.flying + 1
   settled_one s t x some = one_gone (after_ticks x.ticks s) t x.answer x.lane some x.reached
 
 -- ---- a pause
@@ -218,9 +219,9 @@ none_ready b s t e no_one is = ap (λ (x : State). not (is_some (next_batch x)))
 
 -- ---- one turn of work
 
-module _ {S : Type 0} (d : Bool) (fits : S → Outside → Type 0) (v w : S) where
+module _ {S : Type 0} (d : Bool) (fits : S → Outside → Type 0) (carries : S → Exchange → S → Type 0) (v w : S) where
   -- a request was sent or answered
-  pub progressed : (x : Turn) (s t : State) → sends_first x s ≡ true → Turned x s t → IsPressed s → Delivers d fits v w s t (called_by x s) → Progressed d fits v w s t
+  pub progressed : (x : Turn) (s t : State) → sends_first x s ≡ true → Turned x s t → IsPressed s → Delivers d fits carries v w s t (called_by x s) → Progressed d fits carries v w s t
   progressed x s t goes k pressed delivers =
       let left = k.left in
       let falls = k.falls in
@@ -234,7 +235,7 @@ module _ {S : Type 0} (d : Bool) (fits : S → Outside → Type 0) (v w : S) whe
       }
 
   -- it paused
-  pub paused : (s t : State) (n : ℕ) → length s.core.flying ≡ 0 → next_batch s ≡ None → due_in s ≡ Some n → 0 < n → s.core.clock + n ≤ last_tick → t ≡ after_ticks n s → IsPressed s → Delivers d fits v w s t (called_by (Pauses n) s) → Progressed d fits v w s t
+  pub paused : (s t : State) (n : ℕ) → length s.core.flying ≡ 0 → next_batch s ≡ None → due_in s ≡ Some n → 0 < n → s.core.clock + n ≤ last_tick → t ≡ after_ticks n s → IsPressed s → Delivers d fits carries v w s t (called_by (Pauses n) s) → Progressed d fits carries v w s t
   paused s t n still none due some within e pressed delivers =
       let left = ap sends_left e in
       let requests = ap (λ (x : State). x.core.requests) e in
@@ -249,17 +250,17 @@ module _ {S : Type 0} (d : Bool) (fits : S → Outside → Type 0) (v w : S) whe
       }
 
   -- after nothing was called, on the same lane
-  pub progressed_after : (u : S) (e : Bool) (r s t : State) → e ≡ d → s ≡ r → Delivers d fits u v r s [] → Progressed e fits v w s t → Progressed d fits u w r t
+  pub progressed_after : (u : S) (e : Bool) (r s t : State) → e ≡ d → s ≡ r → Delivers d fits carries u v r s [] → Progressed e fits carries v w s t → Progressed d fits carries u w r t
   progressed_after u e r s t same is before k =
-      let next : Progressed e fits v w r t = subst (λ z. Progressed e fits v w z t) is k in
-      let stood : Delivers d fits u v r r [] = subst (λ z. Delivers d fits u v r z []) is before in
+      let next : Progressed e fits carries v w r t = subst (λ z. Progressed e fits carries v w z t) is k in
+      let stood : Delivers d fits carries u v r r [] = subst (λ z. Delivers d fits carries u v r z []) is before in
       record {
         took = record {
           turn = next.took.turn;
           goes = next.took.goes;
           may = next.took.may;
           reached = next.took.reached;
-          delivers = delivers_on d e fits u v w r r t [] (called_by next.took.turn r) same stood next.took.delivers;
+          delivers = delivers_on d e fits carries u v w r r t [] (called_by next.took.turn r) same stood next.took.delivers;
         };
         stays = next.stays;
         bound = next.bound;

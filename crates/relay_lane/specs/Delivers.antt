@@ -1,4 +1,4 @@
--- What is promised of a lane that works on a wire which describes the outside.
+-- What is promised of a lane that works on a wire: what passed over it, and delivery if the wire describes the outside.
 use Rattle.std.specs.Prelude.{◌≡◌, List, [], Bool, true, false, IsTrue}
 use Rattle.relay_action.specs.declared.operation.Op.{Op}
 use Rattle.relay_results.specs.Outside.{Outside, Continues}
@@ -10,6 +10,7 @@ use Rattle.relay_core.specs.State.{State}
 use Rattle.relay_core.specs.Ties.{Fits}
 use Rattle.relay_lane.specs.Turns.{Turn, Worked, after_turn, MayTurn}
 use Rattle.relay_lane.specs.Calls.{called_by, called_in}
+use Rattle.relay_lane.specs.Exchanges.{Exchange, Passes}
 
 -- Delivery is sound, and complete by the same attribution if nothing is held, provided that no two operations that
 -- the lane took have the same name; and what the lane counts as applied, and as already applied, is what the answers
@@ -31,24 +32,30 @@ pub record GoesOn {S : Type 0} (fits : S → Outside → Type 0) (wire : S) (s :
   pub delivered : IsDelivered s taken outside
 
 -- this holds for each outside that fitted the wire and the lane before, if the wire describes it
-abbrev pub Delivers : {S : Type 0} → Bool → (S → Outside → Type 0) → S → S → State → State → List Call → Type 0
-Delivers describes fits old new s t calls =
+abbrev pub LeadsOn : {S : Type 0} → Bool → (S → Outside → Type 0) → S → S → State → State → List Call → Type 0
+LeadsOn describes fits old new s t calls =
     IsTrue describes → (taken : List Op) (o : Outside) → fits old o → Fits s taken o → GoesOn fits new t taken calls o
 
--- the lane has worked like this, and the outside explains the calls of its turns
-pub record WorkedOn {S : Type 0} (describes : Bool) (fits : S → Outside → Type 0) (going : Turn → State → Bool) (old new : S) (s t : State) : Type 0 where
-  pub worked : Worked going s t
-  pub delivers : Delivers describes fits old new s t (called_in worked.turns s)
+-- What passed over the wire meanwhile is what these calls say: what was settled is what the wire returned. And if the
+-- wire describes the outside, that explains the calls.
+pub record Delivers {S : Type 0} (describes : Bool) (fits : S → Outside → Type 0) (carries : S → Exchange → S → Type 0) (old new : S) (s t : State) (calls : List Call) : Type 0 where
+  pub passes : Passes carries calls s.core.requests old t.core.requests new
+  pub leads : LeadsOn describes fits old new s t calls
 
--- the lane took one turn that passes the test, and the outside explains its calls
-pub record TookTurn {S : Type 0} (describes : Bool) (fits : S → Outside → Type 0) (going : Turn → State → Bool) (old new : S) (s t : State) : Type 0 where
+-- the lane has worked like this, and the calls of its turns are what passed over the wire
+pub record WorkedOn {S : Type 0} (describes : Bool) (fits : S → Outside → Type 0) (carries : S → Exchange → S → Type 0) (going : Turn → State → Bool) (old new : S) (s t : State) : Type 0 where
+  pub worked : Worked going s t
+  pub delivers : Delivers describes fits carries old new s t (called_in worked.turns s)
+
+-- the lane took one turn that passes the test, and its calls are what passed over the wire
+pub record TookTurn {S : Type 0} (describes : Bool) (fits : S → Outside → Type 0) (carries : S → Exchange → S → Type 0) (going : Turn → State → Bool) (old new : S) (s t : State) : Type 0 where
   pub turn : Turn
   pub goes : going turn s ≡ true
   pub may : MayTurn turn s
   pub reached : t ≡ after_turn turn s
-  pub delivers : Delivers describes fits old new s t (called_by turn s)
+  pub delivers : Delivers describes fits carries old new s t (called_by turn s)
 
 -- or it took none
-abbrev pub TookTurnIf : {S : Type 0} → Bool → Bool → (S → Outside → Type 0) → (Turn → State → Bool) → S → S → State → State → Type 0
-TookTurnIf true describes fits going old new s t = TookTurn describes fits going old new s t
-TookTurnIf false describes fits going old new s t = (t ≡ s) × Delivers describes fits old new s t []
+abbrev pub TookTurnIf : {S : Type 0} → Bool → Bool → (S → Outside → Type 0) → (S → Exchange → S → Type 0) → (Turn → State → Bool) → S → S → State → State → Type 0
+TookTurnIf true describes fits carries going old new s t = TookTurn describes fits carries going old new s t
+TookTurnIf false describes fits carries going old new s t = (t ≡ s) × Delivers describes fits carries old new s t []

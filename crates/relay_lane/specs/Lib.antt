@@ -2,6 +2,7 @@ pub mod Wires
 pub mod Out
 pub mod Turns
 pub mod Calls
+pub mod Exchanges
 pub mod Steps
 pub mod Delivers
 pub mod Reach

@@ -32,7 +32,7 @@ pub fn pump<W: Wire, P: Pace>(
     ensures place { OnOk result
         (length lane.new.state.core.flying < lane.new.state.config.in_flight) }
     ensures memory { OnErr result (0 < length lane.new.state.core.held) }
-    ensures worked { WorkedOn (W.describes wire.old) W.fits pumps wire.old wire.new
+    ensures worked { WorkedOn (W.describes wire.old) W.fits W.carries pumps wire.old wire.new
         lane.old.state lane.new.state }
     ensures passed { Passed lane.old.state.core.clock lane.new.state.core.clock
         (P.paused pace.old) (P.paused pace.new) }
@@ -69,7 +69,7 @@ pub fn send_ready<W: Wire, P: Pace>(
         (λ n. lane.new.state.core.requests ≡ lane.old.state.core.requests + n) }
     ensures done { OnOk result (next_batch lane.new.state ≡ None) }
     ensures memory { OnErr result (0 < length lane.new.state.core.held) }
-    ensures worked { WorkedOn (W.describes wire.old) W.fits sends_only wire.old wire.new
+    ensures worked { WorkedOn (W.describes wire.old) W.fits W.carries sends_only wire.old wire.new
         lane.old.state lane.new.state }
     ensures passed { Passed lane.old.state.core.clock lane.new.state.core.clock
         (P.paused pace.old) (P.paused pace.new) }
@@ -96,7 +96,7 @@ pub fn settle_next<W: Wire, P: Pace>(lane: &mut Lane, wire: &mut W, pace: &mut P
     requires out { W.out wire.old ≡ out_of lane.old.state }
     ensures some { result ≡ nat_lt 0 (length lane.old.state.core.flying) }
     ensures one { length lane.new.state.core.flying ≡ length lane.old.state.core.flying - 1 }
-    ensures worked { WorkedOn (W.describes wire.old) W.fits collects wire.old wire.new
+    ensures worked { WorkedOn (W.describes wire.old) W.fits W.carries collects wire.old wire.new
         lane.old.state lane.new.state }
     ensures requests { lane.new.state.core.requests ≡ lane.old.state.core.requests }
     ensures passed { Passed lane.old.state.core.clock lane.new.state.core.clock
@@ -120,7 +120,7 @@ pub fn collect<W: Wire, P: Pace>(lane: &mut Lane, wire: &mut W, pace: &mut P) ->
     requires out { W.out wire.old ≡ out_of lane.old.state }
     ensures count { result ≡ length lane.old.state.core.flying }
     ensures none { lane.new.state.core.flying ≡ [] }
-    ensures worked { WorkedOn (W.describes wire.old) W.fits collects wire.old wire.new
+    ensures worked { WorkedOn (W.describes wire.old) W.fits W.carries collects wire.old wire.new
         lane.old.state lane.new.state }
     ensures requests { lane.new.state.core.requests ≡ lane.old.state.core.requests }
     ensures passed { Passed lane.old.state.core.clock lane.new.state.core.clock
@@ -149,10 +149,10 @@ fn take_turn<W: Wire, P: Pace>(
     requires some { 0 < length lane.old.state.core.held }
     requires pressed { IsPressed lane.old.state }
     requires out { W.out wire.old ≡ out_of lane.old.state }
-    ensures turn { OnOk result (Progressed (W.describes wire.old) W.fits wire.old wire.new
+    ensures turn { OnOk result (Progressed (W.describes wire.old) W.fits W.carries wire.old wire.new
         lane.old.state lane.new.state) }
     ensures unchanged { OnErr result (lane.new.state ≡ lane.old.state) }
-    ensures delivers { OnErr result (Delivers (W.describes wire.old) W.fits wire.old wire.new
+    ensures delivers { OnErr result (Delivers (W.describes wire.old) W.fits W.carries wire.old wire.new
         lane.old.state lane.new.state []) }
     ensures passed { Passed lane.old.state.core.clock lane.new.state.core.clock
         (P.paused pace.old) (P.paused pace.new) }
@@ -182,7 +182,7 @@ fn work<W: Wire, P: Pace>(
     requires out { W.out wire.old ≡ out_of lane.old.state }
     ensures done { OnOk result (length lane.new.state.core.held < least) }
     ensures memory { OnErr result (least ≤ length lane.new.state.core.held) }
-    ensures worked { WorkedOn (W.describes wire.old) W.fits (holds least) wire.old wire.new
+    ensures worked { WorkedOn (W.describes wire.old) W.fits W.carries (holds least) wire.old wire.new
         lane.old.state lane.new.state }
     ensures bound { lane.new.state.core.requests + sends_left lane.new.state
         ≤ lane.old.state.core.requests + sends_left lane.old.state }
@@ -212,7 +212,7 @@ pub fn make_room<W: Wire, P: Pace>(
     ensures done { OnOk result (length lane.new.state.core.held < lane.new.state.config.max_held) }
     ensures memory { OnErr result
         (lane.new.state.config.max_held ≤ length lane.new.state.core.held) }
-    ensures worked { WorkedOn (W.describes wire.old) W.fits is_full wire.old wire.new
+    ensures worked { WorkedOn (W.describes wire.old) W.fits W.carries is_full wire.old wire.new
         (after_flush lane.old.state) lane.new.state }
     ensures bound { lane.new.state.core.requests + sends_left lane.new.state
         ≤ lane.old.state.core.requests + sends_left lane.old.state }
@@ -243,7 +243,7 @@ pub fn drain<W: Wire, P: Pace>(
     requires out { W.out wire.old ≡ out_of lane.old.state }
     ensures done { OnOk result (lane.new.state.core.held ≡ []) }
     ensures memory { OnErr result (0 < length lane.new.state.core.held) }
-    ensures worked { WorkedOn (W.describes wire.old) W.fits holds_some wire.old wire.new
+    ensures worked { WorkedOn (W.describes wire.old) W.fits W.carries holds_some wire.old wire.new
         lane.old.state lane.new.state }
     ensures bound { lane.new.state.core.requests + sends_left lane.new.state
         ≤ lane.old.state.core.requests + sends_left lane.old.state }
@@ -272,9 +272,9 @@ pub fn drain_next<W: Wire, P: Pace>(
     requires out { W.out wire.old ≡ out_of lane.old.state }
     ensures some { IfOk result (λ some. some ≡ nat_lt 0 (length lane.old.state.core.held)) }
     ensures turn { MatchResult result
-        (λ some. TookTurnIf some (W.describes wire.old) W.fits holds_some wire.old wire.new
+        (λ some. TookTurnIf some (W.describes wire.old) W.fits W.carries holds_some wire.old wire.new
         lane.old.state lane.new.state)
-        (λ _. TookTurnIf false (W.describes wire.old) W.fits holds_some wire.old wire.new
+        (λ _. TookTurnIf false (W.describes wire.old) W.fits W.carries holds_some wire.old wire.new
         lane.old.state lane.new.state) }
     ensures memory { OnErr result (0 < length lane.old.state.core.held) }
     ensures smaller { IfOk result (λ some. some ≡ true

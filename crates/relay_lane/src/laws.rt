@@ -5,8 +5,11 @@ ghost use Rattle.relay_lane.specs.Reach.{WorkIsReached, ReachedIsOrderly};
 ghost use Rattle.relay_lane.specs.Laws.{NothingIsOut, TakeKeepsOut, TurnsKeep, WorksOn, LeftAtMost};
 ghost use Rattle.relay_lane.specs.Laws.{LeftIsTries};
 ghost use Rattle.relay_lane.specs.Calls.{TurnIsCalls};
+ghost use Rattle.relay_lane.specs.Exchanges.{RequestsAreGiven, AnswersAreReturned};
 ghost use Rattle.relay_lane.specs.Once.{FreshHasNone, TakeAddsOne, TurnKeepsTimes};
 ghost use Rattle.relay_lane.specs.Once.{WorkKeepsTimes, ForgettingPassesOn};
+
+use crate::wire::Wire;
 
 /// A new lane has nothing outstanding, and it fits every opening, in which nothing was sent and
 /// every stored version is below the first one assigned; whatever message it takes, what is
@@ -50,6 +53,14 @@ pub fn lanes_stay_orderly()
 /// the core after it.
 pub fn turns_are_calls()
     ensures { TurnIsCalls }
+{}
+
+/// Calls that are what passed over a wire, as those of a lane's turns are: the wire was given each of
+/// their requests, and returned each of their answers, or could not send the request that is lost.
+/// So nothing is settled that the wire did not return.
+pub fn answers_are_returned<W: Wire>()
+    ensures requests { RequestsAreGiven W.carries }
+    ensures answers { AnswersAreReturned W.carries }
 {}
 
 /// Each operation that a lane takes ends once, whatever the wire returns: it is held, noted as

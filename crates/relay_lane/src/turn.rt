@@ -24,7 +24,7 @@ pub(crate) fn send_next<W: Wire, P: Pace>(
     requires out { W.out wire.old ≡ out_of lane.old.state }
     ensures lane { IsLane lane.old.state }
     ensures some { IfOk result (λ sent. sent ≡ is_some (next_batch lane.old.state)) }
-    ensures turn { IfOk result (λ sent. Asked (W.describes wire.old) W.fits wire.old wire.new sent
+    ensures turn { IfOk result (λ sent. Asked (W.describes wire.old) W.fits W.carries wire.old wire.new sent
         lane.old.state lane.new.state) }
     ensures unchanged { OnErr result (lane.new.state ≡ lane.old.state) }
     ensures held { OnErr result (0 < length lane.old.state.core.held) }
@@ -32,7 +32,7 @@ pub(crate) fn send_next<W: Wire, P: Pace>(
         (P.paused pace.old) (P.paused pace.new) }
     ensures out { W.out wire.new ≡ out_of lane.new.state }
     ensures describes { W.describes wire.new ≡ W.describes wire.old }
-    ensures delivers { OnErr result (Delivers (W.describes wire.old) W.fits wire.old wire.new
+    ensures delivers { OnErr result (Delivers (W.describes wire.old) W.fits W.carries wire.old wire.new
         lane.old.state lane.new.state []) }
 {
     let _ = lane.totals();
@@ -58,7 +58,7 @@ pub(crate) fn send_next<W: Wire, P: Pace>(
 pub(crate) fn settle_oldest<W: Wire, P: Pace>(lane: &mut Lane, wire: &mut W, pace: &mut P)
     requires some { 0 < length lane.old.state.core.flying }
     requires out { W.out wire.old ≡ out_of lane.old.state }
-    ensures turn { Settled (W.describes wire.old) W.fits wire.old wire.new lane.old.state
+    ensures turn { Settled (W.describes wire.old) W.fits W.carries wire.old wire.new lane.old.state
         lane.new.state }
     ensures passed { Passed lane.old.state.core.clock lane.new.state.core.clock
         (P.paused pace.old) (P.paused pace.new) }

@@ -1,15 +1,21 @@
 -- Requests that are sent and lost.
-use Rattle.std.proofs.Common.{◌≡◌, ◌≢◌, ℕ, List, [], ◌∷◌, ◌++◌, length, Option, Some, None, refl, ap, ◌∙◌, arith}
+use Rattle.std.proofs.Common.{◌≡◌, ◌≢◌, ◌⊎◌, inl, inr, ℕ, List, [], ◌∷◌, ◌++◌, length, Option, Some, None, refl, ap, ◌∙◌, arith}
 use Rattle.std.specs.Prelude.{slice_get}
 use Rattle.relay_results.specs.declared.cause.Loss.{Loss}
 use Rattle.relay_results.specs.declared.cause.Loss.TheVariants as loss
 use Rattle.relay_action.specs.declared.write.Write.{Write}
 use Rattle.relay_results.specs.Numbers.{from_zero}
-use Rattle.relay_results.specs.Outside.{Request, Unanswered, Lost, Outside, Sends, Answers, MayAnswer, after, writes_of}
+use Rattle.relay_results.specs.Outside.{Answer, Request, Unanswered, Lost, Outside, Sends, Answers, MayAnswer, after, writes_of}
 use Rattle.relay_results.proofs.Lists.{at-left, at-last, at-within, at-update_other}
 use Rattle.relay_lane.specs.Wires.{SendsOn, AnswersOn, ExchangesOn, IsNext}
 use Rattle.relay_fixtures.proofs.Items.{no_runs}
-use Rattle.relay_lane_tests.specs.Shown.{IsOut}
+use Rattle.relay_lane.specs.Exchanges.{IsReturned, IsUnsent}
+use Rattle.relay_lane_tests.specs.Shown.{IsOut, LosesEach}
+
+-- each answer that passed over the wire, or that a request got which it could not send, is that it is lost
+pub each_is_lost : {S : Type 0} (flying : S → Option ℕ) (number : ℕ) (a : Answer) → IsReturned (λ v x w. LosesEach (flying v) x (flying w)) number a ⊎ IsUnsent (λ v x w. LosesEach (flying v) x (flying w)) number a → (why : Loss) × (a ≡ Lost why)
+each_is_lost flying number a (inl r) = (loss.Closed, r.was.0)
+each_is_lost flying number a (inr u) = (u.why, u.is)
 
 pub sent_out : (why : Loss) (o : Outside) (number : ℕ) (ws : List Write) → IsNext number o → MayAnswer (after (Sends ws) o) (from_zero number) (Lost why)
 sent_out why o number ws next =

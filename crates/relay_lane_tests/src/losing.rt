@@ -1,7 +1,9 @@
 //! A wire that loses every request, and describes the outside: that it was sent, and lost.
 ghost use Rattle.relay_lane.specs.Out.{out_of};
 ghost use Rattle.std.specs.Option.{option_to_list};
-ghost use Rattle.std.specs.Prelude.{◌≡◌};
+ghost use Rattle.std.specs.Prelude.{◌≡◌, true};
+ghost use Rattle.relay_core.specs.State.{all_closed};
+ghost use Rattle.relay_lane_tests.specs.Shown.{SettlesLosses};
 
 use relay_action::Write;
 use relay_fixtures::config::CONFIG;
@@ -18,13 +20,15 @@ struct Losing {
 impl Wire for Losing {
     ghost use Rattle.std.specs.Prelude.{true};
     ghost use Rattle.std.specs.Option.{option_to_list};
-    ghost use Rattle.relay_lane_tests.specs.Shown.{IsOut};
+    ghost use Rattle.relay_lane_tests.specs.Shown.{IsOut, LosesEach};
 
     ghost out = { λ w. option_to_list w.flying };
 
     ghost describes = { λ w. true };
 
     ghost fits = { λ w o. IsOut w.flying o };
+
+    ghost carries = { λ v x w. LosesEach v.flying x w.flying };
 
     fn send(&mut self, number: u64, _writes: &[Write]) -> Result<(), Loss> {
         if self.flying.is_some() {
@@ -40,12 +44,22 @@ impl Wire for Losing {
     }
 }
 
-// Drains a closed lane, and returns whether no allocation failed.
+// Drains a closed lane, and returns whether no allocation failed. The lane settles nothing that the
+// wire did not return.
+fn empties(lane: &mut Lane, wire: &mut Losing) -> bool
+    requires closed { all_closed lane.old.state ≡ true }
+    requires out { option_to_list wire.old.flying ≡ out_of lane.old.state }
+    ensures { SettlesLosses lane.old.state lane.new.state }
+{
+    let mut pace = NO_PAUSES;
+    drain(lane, wire, &mut pace).is_ok()
+}
+
+// The same for a lane that may be open, which is left as it is.
 fn drains(desk: &mut Desk, wire: &mut Losing) -> bool
     requires { option_to_list wire.old.flying ≡ out_of desk.old.lane.state }
 {
-    let mut pace = NO_PAUSES;
-    desk.lane.closed() && drain(&mut desk.lane, wire, &mut pace).is_ok()
+    desk.lane.closed() && empties(&mut desk.lane, wire)
 }
 
 // Whether each report says that an operation was given up after three sends.

@@ -38,6 +38,9 @@ impl Wire for Telling {
 
     ghost fits = { λ w o. Shows o w.index × IsOutWith w.flying w.reply.items o };
 
+    // It says nothing of what passes beyond what it describes.
+    ghost carries = { λ v x w. Unit {0} };
+
     fn send(&mut self, number: u64, writes: &[Write]) -> Result<(), Loss> {
         if self.flying.is_some() {
             return Err(Loss::Unreachable);

@@ -46,6 +46,8 @@ impl<W: Wire> Wire for CountedWire<W> {
 
     ghost fits = { λ w o. W.fits w o };
 
+    ghost carries = { λ v x w. W.carries v x w };
+
     fn send(&mut self, number: u64, writes: &[Write]) -> Result<(), Loss> {
         let result = self.wire.send(number, writes);
         if let Some(counts) = &self.counts {

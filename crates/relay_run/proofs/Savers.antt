@@ -15,6 +15,7 @@ use Rattle.relay_core.specs.declared.config.RelayConfig.{RelayConfig}
 use Rattle.relay_core.specs.declared.report.Report.{Report}
 use Rattle.relay_core.specs.declared.success.Success.{Success}
 use Rattle.relay_core.specs.Walk.{report_of}
+use Rattle.relay_lane.specs.Exchanges.{Exchange}
 use Rattle.relay_producer.specs.declared.ends.ClosedEnd.{ClosedEnd}
 use Rattle.relay_report.specs.Reports.{report_line}
 use Rattle.relay_threads.specs.declared.fault.FinishFault.{FinishFault}
@@ -112,8 +113,8 @@ pub failed_on : (ss : List Saver) (k : ℕ) (s : Saver) (one b new : Bool) → k
 failed_on ss k s one b new inside is h e n =
     subst (λ (x : Bool). SayFailed (take (k + 1) ss) x) (sym n) (subst (λ l. SayFailed l (one || b)) (next_of ss k s inside is) (failed_push (take k ss) s one b h e))
 
-module _ {W : Type 0} (describes : W → Bool) (fits : W → Outside → Type 0) (c : RelayConfig) (rows : List (List ClosedEnd)) where
-  saves_one : (lane : ℕ) (start : W) (first last : Saver) (s : LaneSummary W) → ToldLane describes fits told_by c rows lane start first last s → first.reported ≡ [] → KeepsTold last → Saves last s.reports.items
+module _ {W : Type 0} (describes : W → Bool) (fits : W → Outside → Type 0) (carries : W → Exchange → W → Type 0) (c : RelayConfig) (rows : List (List ClosedEnd)) where
+  saves_one : (lane : ℕ) (start : W) (first last : Saver) (s : LaneSummary W) → ToldLane describes fits carries told_by c rows lane start first last s → first.reported ≡ [] → KeepsTold last → Saves last s.reports.items
   saves_one lane start first last s h none keeps = record {
     same = λ p.
         let t = h.shown p _ refl in
@@ -122,7 +123,7 @@ module _ {W : Type 0} (describes : W → Bool) (fits : W → Outside → Type 0)
     keeps = keeps;
   }
 
-  pub all_save : (lane : ℕ) (wires : List W) (firsts lasts : List Saver) (ss : List (LaneSummary W)) → AllTold describes fits told_by c rows lane wires firsts lasts ss → AreNew firsts → AllKeep lasts → AllSave lasts ss
+  pub all_save : (lane : ℕ) (wires : List W) (firsts lasts : List Saver) (ss : List (LaneSummary W)) → AllTold describes fits carries told_by c rows lane wires firsts lasts ss → AreNew firsts → AllKeep lasts → AllSave lasts ss
   all_save lane [] [] [] [] h new keep = tt
   all_save lane [] [] [] (s ∷ ss) h new keep = absurd h
   all_save lane [] [] (t ∷ ts) ss h new keep = absurd h
@@ -142,13 +143,13 @@ module _ {W V : Type 0} (items : V → List Saver) where
   of_end Q (Ok f) end tells ok err h = subst (λ (e : Result (Summary W) FinishFault). IfOk e Q) (sym ok.0) h
   of_end Q (Err e) end tells ok err h = subst (λ (e : Result (Summary W) FinishFault). IfOk e Q) (sym err.0) tt
 
-  pub saves_at_end : (describes : W → Bool) (fits : W → Outside → Type 0) (c : RelayConfig) (rows : List (List ClosedEnd)) (wires : List W) (starts firsts : List Saver) (r : Result (Summary W × V) FinishFault) (end : Result (Summary W) FinishFault) (tells : List Saver)
+  pub saves_at_end : (describes : W → Bool) (fits : W → Outside → Type 0) (carries : W → Exchange → W → Type 0) (c : RelayConfig) (rows : List (List ClosedEnd)) (wires : List W) (starts firsts : List Saver) (r : Result (Summary W × V) FinishFault) (end : Result (Summary W) FinishFault) (tells : List Saver)
       → IfOk r (λ f. (end ≡ Ok f.0) × (tells ≡ items f.1)) → IfErr r (λ e. (end ≡ Err e) × (tells ≡ [])) → starts ≡ firsts → AreNew firsts → AllKeep tells
-      → IfOk r (λ f. AllTold describes fits told_by c rows 0 wires starts (items f.1) f.0.lanes.items) → IfOk end (λ s. AllSave tells s.lanes.items)
-  saves_at_end describes fits c rows wires starts firsts (Ok f) end tells ok err start new keep h =
+      → IfOk r (λ f. AllTold describes fits carries told_by c rows 0 wires starts (items f.1) f.0.lanes.items) → IfOk end (λ s. AllSave tells s.lanes.items)
+  saves_at_end describes fits carries c rows wires starts firsts (Ok f) end tells ok err start new keep h =
       subst (λ (e : Result (Summary W) FinishFault). IfOk e (λ s. AllSave tells s.lanes.items)) (sym ok.0)
-      (all_save describes fits c rows 0 wires starts tells f.0.lanes.items (subst (λ ts. AllTold describes fits told_by c rows 0 wires starts ts f.0.lanes.items) (sym ok.1) h) (subst AreNew (sym start) new) keep)
-  saves_at_end describes fits c rows wires starts firsts (Err e) end tells ok err start new keep h =
+      (all_save describes fits carries c rows 0 wires starts tells f.0.lanes.items (subst (λ ts. AllTold describes fits carries told_by c rows 0 wires starts ts f.0.lanes.items) (sym ok.1) h) (subst AreNew (sym start) new) keep)
+  saves_at_end describes fits carries c rows wires starts firsts (Err e) end tells ok err start new keep h =
       subst (λ (e : Result (Summary W) FinishFault). IfOk e (λ s. AllSave tells s.lanes.items)) (sym err.0) tt
 
 -- ---- the start of a relay

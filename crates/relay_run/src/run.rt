@@ -5,6 +5,7 @@ ghost use Rattle.relay_core.specs.Limits.{is_valid};
 ghost use Rattle.relay_ndjson.specs.Metadata.{bytes_given};
 ghost use Rattle.relay_ndjson.specs.Operations.{Operation};
 ghost use Rattle.relay_queue.specs.Ends.{Queue};
+ghost use Rattle.relay_producer.specs.declared.ends.ClosedEnd.{ClosedEnd};
 ghost use Rattle.relay_threads.specs.Relay.{NoneOut};
 ghost use Rattle.relay_threads.specs.DeliveryOfAll.{AllDelivered};
 ghost use Rattle.relay_threads.specs.Together.{AreDeliveredTogether};
@@ -86,11 +87,12 @@ where
         × ((vec_len wires ≢ config.lanes) ⊎ ((vec_len paces ≢ config.lanes)
         ⊎ (vec_len tells ≢ config.lanes)))) }
     ensures delivered { IfOk result (λ r. (queues : List Queue) × (ops : ℕ → List Operation)
+        × (rows : List (List ClosedEnd))
         × AreFedFrom S.left S.failed (bytes_given index.entry) queues config.epoch ops 0
         readers.items
         r.faults.items
-        × IfOk r.end (λ s. AllDelivered W.describes W.fits config
-        (λ p. named_ops config.epoch p 1 (ops p)) 0
+        × IfOk r.end (λ s. AllDelivered W.describes W.fits W.carries config
+        (λ p. named_ops config.epoch p 1 (ops p)) rows 0
         wires.items s.lanes.items)
         × IfOk r.end (λ s. AreDeliveredTogether W.describes W.fits config
         (λ p. named_ops config.epoch p 1 (ops p))

@@ -17,6 +17,7 @@ use Rattle.relay_queue.specs.Ends.{Queue, SenderEnd}
 use Rattle.relay_queue.specs.Messages.{mail_of}
 use Rattle.relay_core.specs.declared.config.RelayConfig.{RelayConfig}
 use Rattle.relay_core.specs.Ties.{ops_of}
+use Rattle.relay_lane.specs.Exchanges.{Exchange}
 use Rattle.relay_producer.specs.declared.ends.ClosedEnd.{ClosedEnd}
 use Rattle.relay_producer.specs.declared.ends.ClosedEnd.TheVariants.{Closed, Gone}
 use Rattle.relay_producer.specs.Ends.{end_of, closed_puts}
@@ -239,8 +240,8 @@ are_long qs p lanes (c ∷ cs) k n own = (long_map end_of c.ends ∙ row_long qs
 
 -- ---- lanes
 
-module _ {W : Type 0} (describes : W → Bool) (fits : W → Outside → Type 0) (c : RelayConfig) (puts : ℕ → List Op) (cs : List ClosedProducerState) (k : ClosedControlState) where
-  one_delivered : (lane : ℕ) (w : W) (s : LaneSummary W) → length cs ≡ c.producers → AreLong c.lanes cs → HavePut puts 0 cs → HaveNoPuts (closed_puts k.ends) → FinishedLane describes fits c (rows_of cs k) lane w s → DeliveredLane describes fits c puts lane w s
+module _ {W : Type 0} (describes : W → Bool) (fits : W → Outside → Type 0) (carries : W → Exchange → W → Type 0) (c : RelayConfig) (puts : ℕ → List Op) (cs : List ClosedProducerState) (k : ClosedControlState) where
+  one_delivered : (lane : ℕ) (w : W) (s : LaneSummary W) → length cs ≡ c.producers → AreLong c.lanes cs → HavePut puts 0 cs → HaveNoPuts (closed_puts k.ends) → FinishedLane describes fits carries c (rows_of cs k) lane w s → DeliveredLane describes fits carries c puts (rows_of cs k) lane w s
   one_delivered lane w s n long h none f =
       let rows : length (rows_of cs k) ≡ length cs + 1 = length-append (map (λ (x : ClosedProducerState). x.ends) cs) (k.ends ∷ []) ∙ ap (λ m. m + 1) (long_ends cs) in
       let all = of_all c.lanes lane c.producers puts f.messages (λ q lt. of_senders c.lanes lane 0 puts f.messages cs k long h f.met q (omega arith) (omega (arith, lt, n)))
@@ -249,12 +250,9 @@ module _ {W : Type 0} (describes : W → Bool) (fits : W → Outside → Type 0)
       ⊎_elim (λ (e : q ≡ c.producers). of_control lane 0 f.messages cs k none f.met q (omega (arith, e, n)))
       (λ (g : c.producers < q). ap puts_of (f.no_other q (omega (arith, g, rows, n)))) r) (split q c.producers)) in
       record {
-        taken = puts_of f.messages;
+        finished = f;
         own = all.own;
         no_other = all.no_other;
-        count = f.taken;
-        totals = f.totals;
-        reached = f.reached;
         explained = f.explained all.distinct;
         explained_if_stated = f.explained_if_stated all.distinct;
         delivers = f.delivers all.distinct;
@@ -263,7 +261,7 @@ module _ {W : Type 0} (describes : W → Bool) (fits : W → Outside → Type 0)
         long_ends [] = refl
         long_ends (x ∷ xs) = ap suc (long_ends xs)
 
-  pub all_delivered : (lane : ℕ) (ws : List W) (ss : List (LaneSummary W)) → length cs ≡ c.producers → AreLong c.lanes cs → HavePut puts 0 cs → HaveNoPuts (closed_puts k.ends) → AllFinished describes fits c (rows_of cs k) lane ws ss → AllDelivered describes fits c puts lane ws ss
+  pub all_delivered : (lane : ℕ) (ws : List W) (ss : List (LaneSummary W)) → length cs ≡ c.producers → AreLong c.lanes cs → HavePut puts 0 cs → HaveNoPuts (closed_puts k.ends) → AllFinished describes fits carries c (rows_of cs k) lane ws ss → AllDelivered describes fits carries c puts (rows_of cs k) lane ws ss
   all_delivered lane [] [] n long h none f = tt
   all_delivered lane [] (s ∷ ss) n long h none f = absurd f
   all_delivered lane (w ∷ ws) [] n long h none f = absurd f

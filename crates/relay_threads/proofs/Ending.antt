@@ -10,6 +10,7 @@ use Rattle.relay_core.specs.State.{State, all_closed, oldest, without_successes}
 use Rattle.relay_lane.specs.Turns.{Turn, Sends, Fails, Settles, Pauses, after_answer, after_ticks, after_turns, AllMayTurn, Worked, Stays, collects}
 use Rattle.relay_lane.specs.Delivers.{WorkedOn}
 use Rattle.relay_lane.proofs.Sends.{none_left}
+use Rattle.relay_lane.specs.Exchanges.{Exchange}
 use Rattle.relay_threads.specs.declared.lane_end.LaneEndKind.{LaneEndKind}
 use Rattle.relay_threads.specs.declared.lane_end.LaneEndKind.TheVariants.{Finished, Memory, Gone}
 use Rattle.relay_threads.specs.Course.{KnowsOpen, OneIsOpen, HasHeard, Course, EndsAs}
@@ -42,9 +43,9 @@ left_open producers taken kind s heard gone h n knows left =
     let all : taken ≡ heard = h.all ∙ ap (λ l. heard ++ l) none ∙ append-nil heard in
     subst (OneIsOpen (producers + 1)) (sym all) (one_open s.closed heard (producers + 1) n knows left)
 
-module _ {S : Type 0} (d : Bool) (fits : S → Outside → Type 0) where
+module _ {S : Type 0} (d : Bool) (fits : S → Outside → Type 0) (carries : S → Exchange → S → Type 0) where
   -- it stopped early
-  pub ends_early : (start w : S) (c : RelayConfig) (taken : List Mail) (kind : LaneEndKind) (s : State) → kind ≢ Finished → (kind ≡ Gone → all_closed s ≡ false) → (heard : List Mail) → HasHeard kind taken heard → Course d fits start w c heard s → EndsAs d fits start w c taken kind s
+  pub ends_early : (start w : S) (c : RelayConfig) (taken : List Mail) (kind : LaneEndKind) (s : State) → kind ≢ Finished → (kind ≡ Gone → all_closed s ≡ false) → (heard : List Mail) → HasHeard kind taken heard → Course d fits carries start w c heard s → EndsAs d fits carries start w c taken kind s
   ends_early start w c taken kind s early left heard h course = record {
     messages = heard;
     heard = h;
@@ -55,7 +56,7 @@ module _ {S : Type 0} (d : Bool) (fits : S → Outside → Type 0) where
   }
 
   -- it drained
-  pub ends_drained : (start w : S) (c : RelayConfig) (taken : List Mail) (kind : LaneEndKind) (s t : State) → Course d fits start w c taken t → all_closed s ≡ true → t.closed ≡ s.closed → (kind ≡ Finished → t.core.held ≡ []) → kind ≢ Gone → EndsAs d fits start w c taken kind t
+  pub ends_drained : (start w : S) (c : RelayConfig) (taken : List Mail) (kind : LaneEndKind) (s t : State) → Course d fits carries start w c taken t → all_closed s ≡ true → t.closed ≡ s.closed → (kind ≡ Finished → t.core.held ≡ []) → kind ≢ Gone → EndsAs d fits carries start w c taken kind t
   ends_drained start w c taken kind s t course closed stays none early = record {
     messages = taken;
     heard = heard_all kind taken;
@@ -66,30 +67,30 @@ module _ {S : Type 0} (d : Bool) (fits : S → Outside → Type 0) where
   }
 
   -- what is forgotten at the end is no part of it
-  pub ends_forgotten : (start w : S) (c : RelayConfig) (taken : List Mail) (kind : LaneEndKind) (s t : State) → t ≡ without_successes s → EndsAs d fits start w c taken kind s → EndsAs d fits start w c taken kind t
-  ends_forgotten start w c taken kind s t e k = subst (λ z. EndsAs d fits start w c taken kind z) (sym e) (record {
+  pub ends_forgotten : (start w : S) (c : RelayConfig) (taken : List Mail) (kind : LaneEndKind) (s t : State) → t ≡ without_successes s → EndsAs d fits carries start w c taken kind s → EndsAs d fits carries start w c taken kind t
+  ends_forgotten start w c taken kind s t e k = subst (λ z. EndsAs d fits carries start w c taken kind z) (sym e) (record {
     messages = k.messages;
     heard = k.heard;
-    course = marks d fits start w s c k.messages s.mark [] k.course;
+    course = marks d fits carries start w s c k.messages s.mark [] k.course;
     closed = k.closed;
     not_closed = k.not_closed;
     none_held = k.none_held;
   })
 
   -- what was in flight is settled then
-  pub ends_collected : (start v w : S) (c : RelayConfig) (taken : List Mail) (kind : LaneEndKind) (s t : State) (e : Bool) → e ≡ d → EndsAs d fits start v c taken kind s
-      → WorkedOn e fits collects v w s t → Stays s t → EndsAs d fits start w c taken kind t
+  pub ends_collected : (start v w : S) (c : RelayConfig) (taken : List Mail) (kind : LaneEndKind) (s t : State) (e : Bool) → e ≡ d → EndsAs d fits carries start v c taken kind s
+      → WorkedOn e fits carries collects v w s t → Stays s t → EndsAs d fits carries start w c taken kind t
   ends_collected start v w c taken kind s t e same x worked stays = record {
     messages = x.messages;
     heard = x.heard;
-    course = works d fits collects start v w s t c x.messages (subst (λ z. WorkedOn z fits collects v w s t) same worked) stays x.course;
+    course = works d fits carries collects start v w s t c x.messages (subst (λ z. WorkedOn z fits carries collects v w s t) same worked) stays x.course;
     closed = λ f. ap (list_all (λ (b : Bool). b)) stays.closed ∙ x.closed f;
     not_closed = x.not_closed;
     none_held = λ f. collected_none s t worked.worked (x.none_held f);
   }
 
   -- if it finished, it took each sender's Done
-  pub all_closed_there : (start w : S) (c : RelayConfig) (taken : List Mail) (kind : LaneEndKind) (s : State) (senders : ℕ) → EndsAs d fits start w c taken kind s → senders ≡ c.producers + 1 → kind ≡ Finished
+  pub all_closed_there : (start w : S) (c : RelayConfig) (taken : List Mail) (kind : LaneEndKind) (s : State) (senders : ℕ) → EndsAs d fits carries start w c taken kind s → senders ≡ c.producers + 1 → kind ≡ Finished
       → (sender : ℕ) → sender < senders → HasDone (mail_of sender taken)
   all_closed_there start w c taken kind s senders x count f sender lt =
       let k = x.course.senders in
@@ -101,10 +102,10 @@ module _ {S : Type 0} (d : Bool) (fits : S → Outside → Type 0) where
 heard_as : (kind kind' : LaneEndKind) (taken heard : List Mail) → (kind ≡ Memory → kind' ≡ Memory) → HasHeard kind taken heard → HasHeard kind' taken heard
 heard_as kind kind' taken heard memory h = record { missed = h.missed; all = h.all; most = h.most; puts = h.puts; memory = λ n. h.memory (λ m. n (memory m)) }
 
-pub ends_told_as : {S A E : Type 0} (d : Bool) (fits : S → Outside → Type 0) (start w : S) (c : RelayConfig) (taken : List Mail) (kind kind' : LaneEndKind) (s : State) (r : Result A E)
-    → OnOk r (kind' ≡ kind) → OnErr r ((kind' ≢ Finished) × (kind' ≡ Gone → kind ≡ Gone)) → (kind ≡ Memory → kind' ≡ Memory) → EndsAs d fits start w c taken kind s → EndsAs d fits start w c taken kind' s
-ends_told_as d fits start w c taken kind kind' s (Ok x) ok err memory k = subst (λ z. EndsAs d fits start w c taken z s) (sym ok) k
-ends_told_as d fits start w c taken kind kind' s (Err x) ok err memory k = record {
+pub ends_told_as : {S A E : Type 0} (d : Bool) (fits : S → Outside → Type 0) (carries : S → Exchange → S → Type 0) (start w : S) (c : RelayConfig) (taken : List Mail) (kind kind' : LaneEndKind) (s : State) (r : Result A E)
+    → OnOk r (kind' ≡ kind) → OnErr r ((kind' ≢ Finished) × (kind' ≡ Gone → kind ≡ Gone)) → (kind ≡ Memory → kind' ≡ Memory) → EndsAs d fits carries start w c taken kind s → EndsAs d fits carries start w c taken kind' s
+ends_told_as d fits carries start w c taken kind kind' s (Ok x) ok err memory k = subst (λ z. EndsAs d fits carries start w c taken z s) (sym ok) k
+ends_told_as d fits carries start w c taken kind kind' s (Err x) ok err memory k = record {
   messages = k.messages;
   heard = heard_as kind kind' taken k.messages memory k.heard;
   course = k.course;
@@ -122,17 +123,17 @@ pub finished_as : {A E : Type 0} (kind kind' : LaneEndKind) (r : Result A E) →
 finished_as kind kind' (Ok x) ok err f = sym ok ∙ f
 finished_as kind kind' (Err x) ok err f = absurd (err.0 f)
 
-pub told_at_the_end : {S A E : Type 0} (d : Bool) (fits : S → Outside → Type 0) (first last : S) (c : RelayConfig) (start now : ℕ → Option Told) (number : ℕ) (s t : State) (taken heard : List Mail) (kind kind' : LaneEndKind) (r : Result A E)
-    → t ≡ without_successes s → HasHeard kind taken heard → HasTold d fits first last c start now number t heard
-    → OnErr r ((kind' ≢ Finished) × (kind' ≡ Gone → kind ≡ Gone)) → (kind ≡ Memory → kind' ≡ Memory) → OnOk r (length t.core.reports ≤ number) → EndsTold d fits first last start now c taken kind' t
-told_at_the_end d fits first last c start now number s t taken heard kind kind' r none h x err memory all = record {
+pub told_at_the_end : {S A E : Type 0} (d : Bool) (fits : S → Outside → Type 0) (carries : S → Exchange → S → Type 0) (first last : S) (c : RelayConfig) (start now : ℕ → Option Told) (number : ℕ) (s t : State) (taken heard : List Mail) (kind kind' : LaneEndKind) (r : Result A E)
+    → t ≡ without_successes s → HasHeard kind taken heard → HasTold d fits carries first last c start now number t heard
+    → OnErr r ((kind' ≢ Finished) × (kind' ≡ Gone → kind ≡ Gone)) → (kind ≡ Memory → kind' ≡ Memory) → OnOk r (length t.core.reports ≤ number) → EndsTold d fits carries first last start now c taken kind' t
+told_at_the_end d fits carries first last c start now number s t taken heard kind kind' r none h x err memory all = record {
   messages = heard;
   heard = heard_as kind kind' taken heard memory h;
   number = number;
   has_told = x;
   none_noted = ap (λ (z : State). z.successes) none;
-  all_reported = λ f. told_of_all d fits first last c start now number t heard x (finished_ok kind kind' r (length t.core.reports ≤ number) err all f);
-  explained = λ distinct o p begins explains. explained_truly d fits first last c start now number t heard x distinct o p begins explains;
-  explained_if_stated = λ distinct o p begins explains states. stated_truly d fits first last c start now number t heard x distinct o p begins explains states;
-  described = λ distinct is o f opening below. described_truly d fits first last c start now number t heard x distinct o opening below (x.course.delivers is o f opening below);
+  all_reported = λ f. told_of_all d fits carries first last c start now number t heard x (finished_ok kind kind' r (length t.core.reports ≤ number) err all f);
+  explained = λ distinct o p begins explains. explained_truly d fits carries first last c start now number t heard x distinct o p begins explains;
+  explained_if_stated = λ distinct o p begins explains states. stated_truly d fits carries first last c start now number t heard x distinct o p begins explains states;
+  described = λ distinct is o f opening below. described_truly d fits carries first last c start now number t heard x distinct o opening below (x.course.delivers is o f opening below);
 }

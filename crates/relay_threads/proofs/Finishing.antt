@@ -26,6 +26,7 @@ use Rattle.relay_delivery.specs.Lane.{held_of, fresh_state}
 use Rattle.relay_core.specs.Endings.{is_held_as, is_success_as, is_report_as}
 use Rattle.relay_producer.specs.States.{ClosedProducerState, ClosedControlState}
 use Rattle.relay_lane.specs.Delivers.{GoesOn}
+use Rattle.relay_lane.specs.Exchanges.{Exchange, Passes}
 use Rattle.relay_producer.specs.declared.ends.ClosedEnd.{ClosedEnd}
 use Rattle.relay_threads.specs.declared.lane_end.LaneEnd.{LaneEnd}
 use Rattle.relay_threads.specs.declared.lane_end.LaneEndKind.{LaneEndKind}
@@ -34,10 +35,10 @@ use Rattle.relay_threads.specs.declared.summary.LaneSummary.{LaneSummary}
 use Rattle.relay_threads.specs.Course.{puts_of, HasHeard, IsBelow}
 use Rattle.relay_threads.specs.Promises.{KeepsCourse, KeepsTold}
 use Rattle.relay_threads.specs.Told.{Told, Shows, noted_in, IsOfTaken, IsToldTruly, GoesOnTruly}
-use Rattle.relay_threads.specs.ToldAll.{CarriesTruly, ToldLane, AllTold}
+use Rattle.relay_threads.specs.ToldAll.{LeadsToTruly, ToldLane, AllTold}
 use Rattle.relay_threads.specs.Lanes.{LaneHandle, queues_of, wires_of, tells_of, AreLanesOf, EndAsPromised, ToldAsPromised}
 use Rattle.relay_threads.specs.Faults.{ends_as, is_memory, is_gone_kind, is_gone_in, is_gone_in_any, is_gone_lane}
-use Rattle.relay_threads.specs.Ending.{EndsOn, AllEndOn, Carries, IsDeliveredFor, FinishedLane, AllFinished}
+use Rattle.relay_threads.specs.Ending.{EndsOn, AllEndOn, LeadsTo, IsDeliveredFor, FinishedLane, AllFinished}
 use Rattle.relay_threads.specs.Relay.{RelayState, AreRows, rows_of}
 use Rattle.relay_threads.specs.Sums.{AreMetAt, NoneGoneIn, NoneGone, queues_of_ends, AreDone, SumsUp, AllSumUp}
 use Rattle.relay_threads.proofs.Popping.{long_map}
@@ -70,15 +71,15 @@ is_finished Finished m g = refl
 is_finished Memory m g = absurd (cc)
 is_finished Gone m g = absurd (cc)
 
-module _ {W : Type 0} (describes : W → Bool) (fits : W → Outside → Type 0) (c : RelayConfig) where
+module _ {W : Type 0} (describes : W → Bool) (fits : W → Outside → Type 0) (carries : W → Exchange → W → Type 0) (c : RelayConfig) where
   -- ---- what the threads promised
 
-  pub all_end : {T : Type 0} (hs : List (LaneHandle W T)) (es : List (LaneEnd W)) → AreLanesOf c hs → EndAsPromised describes fits hs es → AllEndOn describes fits c (queues_of hs) (wires_of hs) es
+  pub all_end : {T : Type 0} (hs : List (LaneHandle W T)) (es : List (LaneEnd W)) → AreLanesOf c hs → EndAsPromised describes fits carries hs es → AllEndOn describes fits carries c (queues_of hs) (wires_of hs) es
   all_end [] [] own k = tt
   all_end [] (e ∷ es) own k = absurd k
   all_end (h ∷ hs) [] own k = absurd k
   all_end (h ∷ hs) (e ∷ es) own k =
-      let one : KeepsCourse describes fits c h.promise.take.value h.promise.wire.value e = subst (λ g. KeepsCourse describes fits g h.promise.take.value h.promise.wire.value e) own.0.0 k.0 in
+      let one : KeepsCourse describes fits carries c h.promise.take.value h.promise.wire.value e = subst (λ g. KeepsCourse describes fits carries g h.promise.take.value h.promise.wire.value e) own.0.0 k.0 in
       let n = own.0.1 in (
         record {
           of_queue = one.queue;
@@ -89,7 +90,7 @@ module _ {W : Type 0} (describes : W → Bool) (fits : W → Outside → Type 0)
         all_end hs es own.1 k.1,
       )
 
-  pub queues_same : (qs : List Queue) (ws : List W) (es : List (LaneEnd W)) → AllEndOn describes fits c qs ws es → queues_of_ends es ≡ qs
+  pub queues_same : (qs : List Queue) (ws : List W) (es : List (LaneEnd W)) → AllEndOn describes fits carries c qs ws es → queues_of_ends es ≡ qs
   queues_same [] [] [] a = refl
   queues_same [] [] (e ∷ es) a = absurd a
   queues_same [] (w ∷ ws) es a = absurd a
@@ -107,7 +108,7 @@ module _ {W : Type 0} (describes : W → Bool) (fits : W → Outside → Type 0)
   all_kinds [] m g = tt
   all_kinds (e ∷ es) m g = (is_finished e.kind (m 0 (omega arith)) (g 0 (omega arith)), all_kinds es (λ lane lt. m (suc lane) (omega (arith, lt))) (λ lane lt. g (suc lane) (omega (arith, lt))))
 
-  done_of : (n : ℕ) (qs : List Queue) (ws : List W) (es : List (LaneEnd W)) → n ≡ c.producers + 1 → AllEndOn describes fits c qs ws es → AllKinds es → AreDone n es
+  done_of : (n : ℕ) (qs : List Queue) (ws : List W) (es : List (LaneEnd W)) → n ≡ c.producers + 1 → AllEndOn describes fits carries c qs ws es → AllKinds es → AreDone n es
   done_of n [] [] [] at a k = tt
   done_of n [] [] (e ∷ es) at a k = absurd a
   done_of n [] (w ∷ ws) es at a k = absurd a
@@ -122,7 +123,7 @@ module _ {W : Type 0} (describes : W → Bool) (fits : W → Outside → Type 0)
     pub each_done : AreDone n es
     pub kinds : AllKinds es
 
-  pub may_sum : (n : ℕ) (qs : List Queue) (ws : List W) (es : List (LaneEnd W)) (rows : List (List ClosedEnd)) (lanes : ℕ) → n ≡ c.producers + 1 → length es ≡ lanes → AllEndOn describes fits c qs ws es → AreRows qs 0 rows
+  pub may_sum : (n : ℕ) (qs : List Queue) (ws : List W) (es : List (LaneEnd W)) (rows : List (List ClosedEnd)) (lanes : ℕ) → n ≡ c.producers + 1 → length es ≡ lanes → AllEndOn describes fits carries c qs ws es → AreRows qs 0 rows
       → NoneBelow (ends_as is_memory es) lanes → NoneBelow (is_gone_lane es rows) lanes → MaySum n rows es
   may_sum n qs ws es rows lanes at long a own m g =
       let same = queues_same qs ws es a in
@@ -144,8 +145,8 @@ module _ {W : Type 0} (describes : W → Bool) (fits : W → Outside → Type 0)
     not_memory kind f e = let k : Finished ≡ Memory = sym f ∙ e in absurd (cc)
 
   -- delivery, as a lane's end has it, is that of its summary
-  carries : (ops : List Op) (calls : List Call) (e : LaneEnd W) (s : LaneSummary W) (o : Outside) → e.lane.state.config ≡ c → e.lane.state.core.held ≡ [] → SumsUp e s → HasDistinctNames ops → GoesOn fits e.wire e.lane.state ops calls o → Carries describes fits c ops calls s o
-  carries ops calls e s o is none sum distinct g =
+  leads_to : (ops : List Op) (calls : List Call) (e : LaneEnd W) (s : LaneSummary W) (o : Outside) → e.lane.state.config ≡ c → e.lane.state.core.held ≡ [] → SumsUp e s → HasDistinctNames ops → GoesOn fits e.wire e.lane.state ops calls o → LeadsTo describes fits carries c ops calls s o
+  leads_to ops calls e s o is none sum distinct g =
       let conf : e.lane.state.core.config ≡ config_of c = sum.lane.config ∙ ap config_of is in
       let reports = sum.reports in
       record {
@@ -162,7 +163,7 @@ module _ {W : Type 0} (describes : W → Bool) (fits : W → Outside → Type 0)
 
   -- delivery for an outside that explains a lane's calls
   explains : (ops : List Op) (e : LaneEnd W) (s : LaneSummary W) (o p : Outside) → e.lane.state.config ≡ c → e.lane.state.core.held ≡ [] → SumsUp e s → HasDistinctNames ops
-      → (r : Reached e.lane.state.core ops) → IsOpening o → IsBelow (first_in c.epoch) o → Explains r.calls o p → IsDeliveredFor describes fits c ops s p
+      → (r : Reached e.lane.state.core ops) → IsOpening o → IsBelow (first_in c.epoch) o → Explains r.calls o p → IsDeliveredFor describes fits carries c ops s p
   explains ops e s o p is none sum distinct r opening below x =
       let conf : e.lane.state.core.config ≡ config_of c = sum.lane.config ∙ ap config_of is in
       let first : e.lane.state.core.config.first ≡ first_in c.epoch = ap (λ (g : Config). g.first) conf in
@@ -175,7 +176,7 @@ module _ {W : Type 0} (describes : W → Bool) (fits : W → Outside → Type 0)
 
   -- the same for an outside that states the stored versions
   explains_if_stated : (ops : List Op) (e : LaneEnd W) (s : LaneSummary W) (o p : Outside) → e.lane.state.config ≡ c → e.lane.state.core.held ≡ [] → SumsUp e s → HasDistinctNames ops
-      → (r : Reached e.lane.state.core ops) → BeginsBeside (config_of c) o → Explains r.calls o p → StatesVersions p → IsDeliveredFor describes fits c ops s p
+      → (r : Reached e.lane.state.core ops) → BeginsBeside (config_of c) o → Explains r.calls o p → StatesVersions p → IsDeliveredFor describes fits carries c ops s p
   explains_if_stated ops e s o p is none sum distinct r begins x states =
       let conf : e.lane.state.core.config ≡ config_of c = sum.lane.config ∙ ap config_of is in
       let reports = sum.reports in
@@ -185,7 +186,11 @@ module _ {W : Type 0} (describes : W → Bool) (fits : W → Outside → Type 0)
         complete = subst (λ (z : Config × List Report). IsComplete ops z.1 (applied_ops z.0 ops p)) (λ i. (conf i, sym reports i)) (explained_complete_if_stated e.lane.state.core ops r o p here x states distinct none);
       }
 
-  one_finished : (rows : List (List ClosedEnd)) (lane : ℕ) (q : Queue) (w : W) (e : LaneEnd W) (s : LaneSummary W) → length rows ≡ c.producers + 1 → e.kind ≡ Finished → EndsOn describes fits c q w e → AreMetAt lane 0 e.taken.taken rows → SumsUp e s → FinishedLane describes fits c rows lane w s
+  -- what passed over its wire
+  passes_to : (calls : List Call) (w : W) (e : LaneEnd W) (s : LaneSummary W) → SumsUp e s → Passes carries calls 0 w e.lane.state.core.requests e.wire → Passes carries calls 0 w s.requests s.wire
+  passes_to calls w e s sum x = subst (λ (z : ℕ × W). Passes carries calls 0 w z.0 z.1) (λ i. (sym sum.requests i, sym sum.wire i)) x
+
+  one_finished : (rows : List (List ClosedEnd)) (lane : ℕ) (q : Queue) (w : W) (e : LaneEnd W) (s : LaneSummary W) → length rows ≡ c.producers + 1 → e.kind ≡ Finished → EndsOn describes fits carries c q w e → AreMetAt lane 0 e.taken.taken rows → SumsUp e s → FinishedLane describes fits carries c rows lane w s
   one_finished rows lane q w e s count f on met sum =
       let x = on.ends in
       let none = x.none_held f in
@@ -207,6 +212,7 @@ module _ {W : Type 0} (describes : W → Bool) (fits : W → Outside → Type 0)
         reached = record {
           state = e.lane.state.core;
           reached = reached;
+          passes = passes_to calls.calls w e s sum k.passes;
           config = sum.lane.config ∙ ap config_of k.config;
           none_held = none;
           taken = sum.taken;
@@ -218,14 +224,14 @@ module _ {W : Type 0} (describes : W → Bool) (fits : W → Outside → Type 0)
         explained = λ distinct o p opening below x. explains (puts_of e.taken.taken) e s o p k.config none sum distinct reached opening below x;
         explained_if_stated = λ distinct o p begins x states. explains_if_stated (puts_of e.taken.taken) e s o p k.config none sum distinct reached begins x states;
         delivers = λ distinct is o fit opening below.
-            carries (puts_of e.taken.taken) calls.calls e s o k.config none sum distinct
+            leads_to (puts_of e.taken.taken) calls.calls e s o k.config none sum distinct
             (subst (λ m. GoesOn fits e.wire e.lane.state (puts_of m) calls.calls o) (sym all) (k.delivers is o fit opening below));
       }
 
   -- ---- all lanes
 
-  pub all_finished : (rows : List (List ClosedEnd)) (lane : ℕ) (qs : List Queue) (ws : List W) (es : List (LaneEnd W)) (ss : List (LaneSummary W)) → length rows ≡ c.producers + 1 → AllEndOn describes fits c qs ws es → AllKinds es → AllSumUp rows lane es ss
-      → AllFinished describes fits c rows lane ws ss
+  pub all_finished : (rows : List (List ClosedEnd)) (lane : ℕ) (qs : List Queue) (ws : List W) (es : List (LaneEnd W)) (ss : List (LaneSummary W)) → length rows ≡ c.producers + 1 → AllEndOn describes fits carries c qs ws es → AllKinds es → AllSumUp rows lane es ss
+      → AllFinished describes fits carries c rows lane ws ss
   all_finished rows lane [] [] [] [] n a k s = tt
   all_finished rows lane [] [] [] (x ∷ ss) n a k s = absurd s
   all_finished rows lane [] [] (e ∷ es) ss n a k s = absurd a
@@ -237,7 +243,7 @@ module _ {W : Type 0} (describes : W → Bool) (fits : W → Outside → Type 0)
 
 -- ---- what they told
 
-module _ {W T : Type 0} (describes : W → Bool) (fits : W → Outside → Type 0) (told : T → ℕ → Option Told) (c : RelayConfig) where
+module _ {W T : Type 0} (describes : W → Bool) (fits : W → Outside → Type 0) (carries : W → Exchange → W → Type 0) (told : T → ℕ → Option Told) (c : RelayConfig) where
   -- this is what the lanes have told that have ended, each with its wire at the start, and with what it told by at the
   -- start and at the end
   abbrev pub AllEndTold : List W → List T → List (LaneEnd W) → List T → Type 0
@@ -248,15 +254,15 @@ module _ {W T : Type 0} (describes : W → Bool) (fits : W → Outside → Type 
   AllEndTold (w ∷ ws) [] es ts = ⊥
   AllEndTold (w ∷ ws) (f ∷ fs) [] ts = ⊥
   AllEndTold (w ∷ ws) (f ∷ fs) (e ∷ es) [] = ⊥
-  AllEndTold (w ∷ ws) (f ∷ fs) (e ∷ es) (t ∷ ts) = KeepsTold describes fits told c w f t e × AllEndTold ws fs es ts
+  AllEndTold (w ∷ ws) (f ∷ fs) (e ∷ es) (t ∷ ts) = KeepsTold describes fits carries told c w f t e × AllEndTold ws fs es ts
 
-  all_told : (hs : List (LaneHandle W T)) (es : List (LaneEnd W)) (ts : List T) → AreLanesOf c hs → ToldAsPromised describes fits told hs es ts → AllEndTold (wires_of hs) (tells_of hs) es ts
+  all_told : (hs : List (LaneHandle W T)) (es : List (LaneEnd W)) (ts : List T) → AreLanesOf c hs → ToldAsPromised describes fits carries told hs es ts → AllEndTold (wires_of hs) (tells_of hs) es ts
   all_told [] [] [] own k = tt
   all_told [] [] (t ∷ ts) own k = absurd k
   all_told [] (e ∷ es) ts own k = absurd k
   all_told (h ∷ hs) [] ts own k = absurd k
   all_told (h ∷ hs) (e ∷ es) [] own k = absurd k
-  all_told (h ∷ hs) (e ∷ es) (t ∷ ts) own k = (subst (λ g. KeepsTold describes fits told g h.promise.wire.value h.promise.tell.value t e) own.0.0 k.0, all_told hs es ts own.1 k.1)
+  all_told (h ∷ hs) (e ∷ es) (t ∷ ts) own k = (subst (λ g. KeepsTold describes fits carries told g h.promise.wire.value h.promise.tell.value t e) own.0.0 k.0, all_told hs es ts own.1 k.1)
 
   -- what is true beside an outside for a lane's end is true for its summary
   truly : (ops : List Op) (applied : List Success) (reported : List Report) (e : LaneEnd W) (s : LaneSummary W) (p : Outside) → e.lane.state.config ≡ c → SumsUp e s → reported ≡ map report_of s.reports.items
@@ -265,18 +271,18 @@ module _ {W T : Type 0} (describes : W → Bool) (fits : W → Outside → Type 
       let core : e.lane.state.core.config ≡ config_of c = sum.lane.config ∙ ap config_of is in
       subst (λ (z : Config × List Report). IsToldTruly z.0 ops applied z.1 p) (λ i. (core i, all i)) x
 
-  carries_truly : (ops : List Op) (calls : List Call) (applied : List Success) (reported : List Report) (e : LaneEnd W) (s : LaneSummary W) (o : Outside) → e.lane.state.config ≡ c → e.lane.state.core.held ≡ [] → SumsUp e s → HasDistinctNames ops → reported ≡ map report_of s.reports.items
-      → GoesOnTruly fits e.wire e.lane.state ops calls applied reported o → CarriesTruly describes fits told c ops calls applied s o
-  unfolding carries
-  carries_truly ops calls applied reported e s o is none sum distinct all g = record {
-    carries = carries describes fits c ops calls e s o is none sum distinct g.goes_on;
+  leads_to_truly : (ops : List Op) (calls : List Call) (applied : List Success) (reported : List Report) (e : LaneEnd W) (s : LaneSummary W) (o : Outside) → e.lane.state.config ≡ c → e.lane.state.core.held ≡ [] → SumsUp e s → HasDistinctNames ops → reported ≡ map report_of s.reports.items
+      → GoesOnTruly fits e.wire e.lane.state ops calls applied reported o → LeadsToTruly describes fits carries told c ops calls applied s o
+  unfolding leads_to
+  leads_to_truly ops calls applied reported e s o is none sum distinct all g = record {
+    delivery = leads_to describes fits carries c ops calls e s o is none sum distinct g.goes_on;
     truly = truly ops applied reported e s g.goes_on.outside is sum all g.truly;
   }
 
-  one_told : (rows : List (List ClosedEnd)) (lane : ℕ) (q : Queue) (w : W) (e : LaneEnd W) (first last : T) (s : LaneSummary W) → e.kind ≡ Finished → EndsOn describes fits c q w e → KeepsTold describes fits told c w first last e → AreMetAt lane 0 e.taken.taken rows → SumsUp e s → ToldLane describes fits told c rows lane w first last s
+  one_told : (rows : List (List ClosedEnd)) (lane : ℕ) (q : Queue) (w : W) (e : LaneEnd W) (first last : T) (s : LaneSummary W) → e.kind ≡ Finished → EndsOn describes fits carries c q w e → KeepsTold describes fits carries told c w first last e → AreMetAt lane 0 e.taken.taken rows → SumsUp e s → ToldLane describes fits carries told c rows lane w first last s
   one_told rows lane q w e first last s f on k met sum =
       let none = on.ends.none_held f in
-      let all = heard_whole describes fits c e.kind e.taken.taken k.messages f k.heard in
+      let all = heard_whole describes fits carries c e.kind e.taken.taken k.messages f k.heard in
       let conf : e.lane.state.config ≡ c = k.has_told.course.config in
       let core : e.lane.state.core.config ≡ config_of c = sum.lane.config ∙ ap config_of conf in
       let h = k.has_told.telling in
@@ -299,6 +305,7 @@ module _ {W T : Type 0} (describes : W → Bool) (fits : W → Outside → Type 
         reached = record {
           state = e.lane.state.core;
           reached = calls;
+          passes = passes_to describes fits carries c calls.calls w e s sum k.has_told.course.passes;
           config = core;
           none_held = none;
           taken = sum.taken;
@@ -313,11 +320,11 @@ module _ {W T : Type 0} (describes : W → Bool) (fits : W → Outside → Type 
             truly ops h.applied h.reported e s p conf sum reports
             (k.explained distinct o p (record { opening = opening; below = λ d u at. subst (λ a. u < a) (sym lowest) (below d u at) }) explains);
         explained_if_stated = λ distinct o p b explains states. truly ops h.applied h.reported e s p conf sum reports (k.explained_if_stated distinct o p (begins o b) explains states);
-        described = λ distinct is o fit opening below. carries_truly ops calls.calls h.applied h.reported e s o conf none sum distinct reports (k.described distinct is o fit opening below);
+        described = λ distinct is o fit opening below. leads_to_truly ops calls.calls h.applied h.reported e s o conf none sum distinct reports (k.described distinct is o fit opening below);
       }
 
-  pub all_told_to : (rows : List (List ClosedEnd)) (lane : ℕ) (qs : List Queue) (ws : List W) (fs : List T) (es : List (LaneEnd W)) (ts : List T) (ss : List (LaneSummary W)) → AllEndOn describes fits c qs ws es → AllKinds describes fits c es → AllEndTold ws fs es ts → AllSumUp rows lane es ss
-      → AllTold describes fits told c rows lane ws fs ts ss
+  pub all_told_to : (rows : List (List ClosedEnd)) (lane : ℕ) (qs : List Queue) (ws : List W) (fs : List T) (es : List (LaneEnd W)) (ts : List T) (ss : List (LaneSummary W)) → AllEndOn describes fits carries c qs ws es → AllKinds describes fits carries c es → AllEndTold ws fs es ts → AllSumUp rows lane es ss
+      → AllTold describes fits carries told c rows lane ws fs ts ss
   all_told_to rows lane qs [] [] [] [] [] a k t s = tt
   all_told_to rows lane qs [] [] [] [] (x ∷ ss) a k t s = absurd s
   all_told_to rows lane qs [] [] [] (t' ∷ ts) ss a k t s = absurd t
@@ -346,15 +353,15 @@ most_producers c e =
     let b = and_right (nat_le 1 c.producers) (nat_le c.producers 256) a in
     grind (arith, nat_tests)
 
-ends_long : {W T : Type 0} (d : W → Bool) (f : W → Outside → Type 0) (hs : List (LaneHandle W T)) (es : List (LaneEnd W)) → EndAsPromised d f hs es → length es ≡ length hs
-ends_long d f [] [] k = refl
-ends_long d f [] (e ∷ es) k = absurd k
-ends_long d f (h ∷ hs) [] k = absurd k
-ends_long d f (h ∷ hs) (e ∷ es) k = ap suc (ends_long d f hs es k.1)
+ends_long : {W T : Type 0} (d : W → Bool) (f : W → Outside → Type 0) (carries : W → Exchange → W → Type 0) (hs : List (LaneHandle W T)) (es : List (LaneEnd W)) → EndAsPromised d f carries hs es → length es ≡ length hs
+ends_long d f carries [] [] k = refl
+ends_long d f carries [] (e ∷ es) k = absurd k
+ends_long d f carries (h ∷ hs) [] k = absurd k
+ends_long d f carries (h ∷ hs) (e ∷ es) k = ap suc (ends_long d f carries hs es k.1)
 
-pub record Ready {W T : Type 0} (d : W → Bool) (f : W → Outside → Type 0) (told : T → ℕ → Option Told) (self : RelayState W T) (es : List (LaneEnd W)) (ts : List T) (rows : List (List ClosedEnd)) : Type 0 where
-  pub ended : AllEndOn d f self.config self.queues self.wires es
-  pub has_told : AllEndTold d f told self.config self.wires self.tells es ts
+pub record Ready {W T : Type 0} (d : W → Bool) (f : W → Outside → Type 0) (carries : W → Exchange → W → Type 0) (told : T → ℕ → Option Told) (self : RelayState W T) (es : List (LaneEnd W)) (ts : List T) (rows : List (List ClosedEnd)) : Type 0 where
+  pub ended : AllEndOn d f carries self.config self.queues self.wires es
+  pub has_told : AllEndTold d f carries told self.config self.wires self.tells es ts
   pub few_ends : length es ≤ 8
   pub few_rows : length rows ≤ 257
   pub count : length rows ≡ self.config.producers + 1
@@ -362,18 +369,18 @@ pub record Ready {W T : Type 0} (d : W → Bool) (f : W → Outside → Type 0) 
   pub wires : length self.wires ≡ self.config.lanes
   pub some : 0 < self.config.lanes
 
-pub ready : {W T : Type 0} (d : W → Bool) (f : W → Outside → Type 0) (told : T → ℕ → Option Told) (self : RelayState W T) (config : RelayConfig) (hs : List (LaneHandle W T)) (es : List (LaneEnd W)) (ts : List T) (rows : List (List ClosedEnd)) (ps : List ClosedProducerState) (k : ClosedControlState)
-    → self ≡ record { config = config; queues = queues_of hs; wires = wires_of hs; tells = tells_of hs } → is_valid config ≡ true → length hs ≡ config.lanes → AreLanesOf config hs → EndAsPromised d f hs es → ToldAsPromised d f told hs es ts → rows ≡ rows_of ps k → length ps ≡ self.config.producers → Ready d f told self es ts rows
-ready {W = W} {T = T} d f told self config hs es ts rows ps k is valid lanes own kept has_told given count =
+pub ready : {W T : Type 0} (d : W → Bool) (f : W → Outside → Type 0) (carries : W → Exchange → W → Type 0) (told : T → ℕ → Option Told) (self : RelayState W T) (config : RelayConfig) (hs : List (LaneHandle W T)) (es : List (LaneEnd W)) (ts : List T) (rows : List (List ClosedEnd)) (ps : List ClosedProducerState) (k : ClosedControlState)
+    → self ≡ record { config = config; queues = queues_of hs; wires = wires_of hs; tells = tells_of hs } → is_valid config ≡ true → length hs ≡ config.lanes → AreLanesOf config hs → EndAsPromised d f carries hs es → ToldAsPromised d f carries told hs es ts → rows ≡ rows_of ps k → length ps ≡ self.config.producers → Ready d f carries told self es ts rows
+ready {W = W} {T = T} d f carries told self config hs es ts rows ps k is valid lanes own kept has_told given count =
     let same : self.config ≡ config = ap (λ (r : RelayState W T). r.config) is in
     let same_p = ap (λ (g : RelayConfig). g.producers) same in
-    let long = ends_long d f hs es kept in
+    let long = ends_long d f carries hs es kept in
     let rows_long : length rows ≡ length ps + 1 = ap length given ∙ length-append (map (λ (x : ClosedProducerState). x.ends) ps) (k.ends ∷ []) ∙ ap (λ n. n + 1) (long_map (λ (x : ClosedProducerState). x.ends) ps) in
     let eight = most_lanes config valid in
     let sixteen = most_producers config valid in
     record {
-      ended = subst (λ (r : RelayState W T). AllEndOn d f r.config r.queues r.wires es) (sym is) (all_end d f config hs es own kept);
-      has_told = subst (λ (r : RelayState W T). AllEndTold d f told r.config r.wires r.tells es ts) (sym is) (all_told d f told config hs es ts own has_told);
+      ended = subst (λ (r : RelayState W T). AllEndOn d f carries r.config r.queues r.wires es) (sym is) (all_end d f carries config hs es own kept);
+      has_told = subst (λ (r : RelayState W T). AllEndTold d f carries told r.config r.wires r.tells es ts) (sym is) (all_told d f carries told config hs es ts own has_told);
       few_ends = omega (arith, long, lanes, eight);
       few_rows = omega (arith, rows_long, count, same_p, sixteen);
       count = omega (arith, rows_long, count);

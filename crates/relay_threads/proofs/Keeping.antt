@@ -18,12 +18,14 @@ use Rattle.relay_core.specs.Ties.{Fits, ops_of}
 use Rattle.relay_core.proofs.Tying.{fresh_fits, take_fits}
 use Rattle.relay_lane.specs.Calls.{called_in}
 use Rattle.relay_lane.specs.Turns.{Turn, Stays, after_ticks}
-use Rattle.relay_lane.specs.Delivers.{Delivers, WorkedOn}
+use Rattle.relay_lane.specs.Delivers.{LeadsOn, WorkedOn}
 use Rattle.relay_lane.specs.Reach.{IsReached}
 use Rattle.relay_lane.specs.Out.{out_of}
 use Rattle.relay_lane.proofs.Calling.{work_called}
-use Rattle.relay_lane.proofs.Carrying.{goes_on, explains_none, explains_on, delivers_ticks}
+use Rattle.relay_lane.proofs.Carrying.{goes_on, explains_none, explains_on, leads_ticks}
+use Rattle.relay_lane.proofs.Passing.{passes_on, passes_none}
 use Rattle.relay_lane.proofs.Out.{take_keeps_out}
+use Rattle.relay_lane.specs.Exchanges.{Exchange, Passes}
 use Rattle.relay_threads.specs.Course.{puts_of, KnowsClosed, KnowsOpen, DeliversFrom, Course}
 use Rattle.relay_threads.specs.Told.{noted_in}
 use Rattle.relay_threads.proofs.Totals.{worked_totals, take_totals, take_counts}
@@ -65,10 +67,10 @@ counts_more s heard m t =
     let a = length-append (puts_of heard) (ops_of m.body) in
     omega (arith, n, p, a, t)
 
-module _ {S : Type 0} (d : Bool) (fits : S → Outside → Type 0) where
+module _ {S : Type 0} (d : Bool) (fits : S → Outside → Type 0) (carries : S → Exchange → S → Type 0) where
   -- ---- at the start
 
-  abbrev pub fresh_course : (w : S) (c : RelayConfig) → Course d fits w w c [] (fresh c)
+  abbrev pub fresh_course : (w : S) (c : RelayConfig) → Course d fits carries w w c [] (fresh c)
   fresh_course w c = record {
     config = refl;
     core = refl;
@@ -78,27 +80,28 @@ module _ {S : Type 0} (d : Bool) (fits : S → Outside → Type 0) where
     not_closed = λ p lt e d. d;
     totals = refl;
     reached = record { core = record { calls = []; may = tt; took = refl; reached = refl }; next = refl };
+    passes = passes_none carries 0 w;
     delivers = λ is o f opening below. goes_on fits w (fresh c) [] [] o o f (continues_itself o) (explains_none o) (fresh_fits c o opening below);
   }
 
   -- ---- it works
 
   -- what was delivered until now continues over requests
-  pub further : (start v w : S) (s t : State) (c : RelayConfig) (heard : List Mail) (cs ds : List Call) → Delivers d fits v w s t ds → DeliversFrom d fits start v c heard s cs → DeliversFrom d fits start w c heard t (cs ++ ds)
+  pub further : (start v w : S) (s t : State) (c : RelayConfig) (heard : List Mail) (cs ds : List Call) → LeadsOn d fits v w s t ds → DeliversFrom d fits start v c heard s cs → DeliversFrom d fits start w c heard t (cs ++ ds)
   further start v w s t c heard cs ds new old is o f opening below =
       let x = old is o f opening below in
       let y = new is (puts_of heard) x.outside x.fitting x.lane in
       goes_on fits w t (puts_of heard) (cs ++ ds) o y.outside y.fitting (continues_on o x.outside y.outside x.continues y.continues) (explains_on cs ds o x.outside y.outside x.explains y.explains) y.lane
 
   -- what is reached by it
-  pub core_works : (going : Turn → State → Bool) (v w : S) (s t : State) → WorkedOn d fits going v w s t → s.flights.next ≡ s.core.requests + 1 → t.core.config ≡ s.core.config
+  pub core_works : (going : Turn → State → Bool) (v w : S) (s t : State) → WorkedOn d fits carries going v w s t → s.flights.next ≡ s.core.requests + 1 → t.core.config ≡ s.core.config
   core_works going v w s t x numbers = ap (λ (z : delivery.State). z.config) (sym (work_called going s t x.worked numbers).reached) ∙ calls_config (called_in x.worked.turns s) s.core
 
-  abbrev pub works_to : (going : Turn → State → Bool) (v w : S) (s t : State) (taken : List Op) → WorkedOn d fits going v w s t → IsReached s taken → IsReached t taken
+  abbrev pub works_to : (going : Turn → State → Bool) (v w : S) (s t : State) (taken : List Op) → WorkedOn d fits carries going v w s t → IsReached s taken → IsReached t taken
   works_to going v w s t taken x r = reached_on s t taken taken (called_in x.worked.turns s) r (core_works going v w s t x r.next) (work_called going s t x.worked r.next).may (work_called going s t x.worked r.next).reached
       (ap (λ os. taken ++ os) (work_called going s t x.worked r.next).none ∙ append-nil taken) (work_called going s t x.worked r.next).numbers
 
-  abbrev pub works : (going : Turn → State → Bool) (start v w : S) (s t : State) (c : RelayConfig) (heard : List Mail) → WorkedOn d fits going v w s t → Stays s t → Course d fits start v c heard s → Course d fits start w c heard t
+  abbrev pub works : (going : Turn → State → Bool) (start v w : S) (s t : State) (c : RelayConfig) (heard : List Mail) → WorkedOn d fits carries going v w s t → Stays s t → Course d fits carries start v c heard s → Course d fits carries start w c heard t
   works going start v w s t c heard x stays k = record {
     config = stays.config ∙ k.config;
     core = core_works going v w s t x k.reached.next ∙ k.core;
@@ -108,12 +111,13 @@ module _ {S : Type 0} (d : Bool) (fits : S → Outside → Type 0) where
     not_closed = subst (λ l. KnowsOpen l heard) (sym stays.closed) k.not_closed;
     totals = worked_totals going s t x.worked k.totals;
     reached = works_to going v w s t (puts_of heard) x k.reached;
-    delivers = further start v w s t c heard k.reached.core.calls (called_in x.worked.turns s) x.delivers k.delivers;
+    passes = passes_on carries k.reached.core.calls (called_in x.worked.turns s) 0 s.core.requests t.core.requests start v w k.passes x.delivers.passes;
+    delivers = further start v w s t c heard k.reached.core.calls (called_in x.worked.turns s) x.delivers.leads k.delivers;
   }
 
   -- ---- what is no part of its course: another mark, and other notes
 
-  abbrev pub marks : (start w : S) (s : State) (c : RelayConfig) (heard : List Mail) (mark : ℕ) (notes : List Success) → Course d fits start w c heard s → Course d fits start w c heard (record s { mark = mark; successes = notes })
+  abbrev pub marks : (start w : S) (s : State) (c : RelayConfig) (heard : List Mail) (mark : ℕ) (notes : List Success) → Course d fits carries start w c heard s → Course d fits carries start w c heard (record s { mark = mark; successes = notes })
   marks start w s c heard mark notes k = record {
     config = k.config;
     core = k.core;
@@ -123,6 +127,7 @@ module _ {S : Type 0} (d : Bool) (fits : S → Outside → Type 0) where
     not_closed = k.not_closed;
     totals = k.totals;
     reached = record { core = k.reached.core; next = k.reached.next };
+    passes = k.passes;
     delivers = λ is o f opening below.
         let x = k.delivers is o f opening below in
         goes_on fits w (record s { mark = mark; successes = notes }) (puts_of heard) k.reached.core.calls o x.outside x.fitting x.continues x.explains x.lane;
@@ -130,7 +135,7 @@ module _ {S : Type 0} (d : Bool) (fits : S → Outside → Type 0) where
 
   -- ---- ticks pass
 
-  abbrev pub ticks : (start w : S) (n : ℕ) (s : State) (c : RelayConfig) (heard : List Mail) → Course d fits start w c heard s → Course d fits start w c heard (after_ticks n s)
+  abbrev pub ticks : (start w : S) (n : ℕ) (s : State) (c : RelayConfig) (heard : List Mail) → Course d fits carries start w c heard s → Course d fits carries start w c heard (after_ticks n s)
   ticks start w n s c heard k = record {
     config = k.config;
     core = k.core;
@@ -140,7 +145,8 @@ module _ {S : Type 0} (d : Bool) (fits : S → Outside → Type 0) where
     not_closed = k.not_closed;
     totals = k.totals;
     reached = reached_on s (after_ticks n s) (puts_of heard) (puts_of heard) (Ticks (s.core.clock + n) ∷ []) k.reached refl (tt, tt) refl (append-nil (puts_of heard)) k.reached.next;
-    delivers = further start w w s (after_ticks n s) c heard k.reached.core.calls (Ticks (s.core.clock + n) ∷ []) (delivers_ticks d fits w s (after_ticks n s) n refl) k.delivers;
+    passes = passes_on carries k.reached.core.calls (Ticks (s.core.clock + n) ∷ []) 0 s.core.requests s.core.requests start w w k.passes (refl, refl, refl);
+    delivers = further start w w s (after_ticks n s) c heard k.reached.core.calls (Ticks (s.core.clock + n) ∷ []) (leads_ticks d fits w s (after_ticks n s) n refl) k.delivers;
   }
 
   -- ---- it takes
@@ -153,7 +159,14 @@ module _ {S : Type 0} (d : Bool) (fits : S → Outside → Type 0) where
       let lane : Fits t (puts_of (heard ++ m ∷ [])) x.outside = subst (λ l. Fits t l x.outside) (sym (puts_push heard m)) (take_fits s m.sender m.body (puts_of heard) x.outside x.lane) in
       goes_on fits w t (puts_of (heard ++ m ∷ [])) (cs ++ more) o x.outside x.fitting x.continues (explains_on cs more o x.outside x.outside x.explains ((hears s m.sender m.body).explained x.outside)) lane
 
-  abbrev pub takes : (start w : S) (s : State) (c : RelayConfig) (heard : List Mail) (m : Mail) → m.sender < length s.closed → Course d fits start w c heard s → Course d fits start w c (heard ++ m ∷ []) (after_take s m.sender m.body)
+  -- nothing passes over the wire then
+  pub heard_passes : (w : S) (s : State) (sender : ℕ) (b : Body) → Passes carries (heard_as s b) s.core.requests w (after_take s sender b).core.requests w
+  heard_passes w s sender (body.Put o) = (refl, refl, refl)
+  heard_passes w s sender body.Tick = (refl, refl, refl)
+  heard_passes w s sender body.Flush = (refl, refl, refl)
+  heard_passes w s sender body.Done = (refl, refl, refl)
+
+  abbrev pub takes : (start w : S) (s : State) (c : RelayConfig) (heard : List Mail) (m : Mail) → m.sender < length s.closed → Course d fits carries start w c heard s → Course d fits carries start w c (heard ++ m ∷ []) (after_take s m.sender m.body)
   takes start w s c heard m lt k =
       record {
         config = take_config s m.sender m.body ∙ k.config;
@@ -165,11 +178,12 @@ module _ {S : Type 0} (d : Bool) (fits : S → Outside → Type 0) where
         totals = take_totals s m.sender m.body k.totals;
         reached = reached_on s (after_take s m.sender m.body) (puts_of heard) (puts_of (heard ++ m ∷ [])) (heard_as s m.body) k.reached (hears s m.sender m.body).same (hears s m.sender m.body).may (hears s m.sender m.body).is
             (ap (λ os. puts_of heard ++ os) (hears s m.sender m.body).took ∙ sym (puts_push heard m)) ((hears s m.sender m.body).numbers k.reached.next);
+        passes = passes_on carries k.reached.core.calls (heard_as s m.body) 0 s.core.requests (after_take s m.sender m.body).core.requests start w w k.passes (heard_passes w s m.sender m.body);
         delivers = heard_more start w s c heard m k.reached.core.calls k.delivers;
       }
 
   -- a tick that only woke it
-  abbrev pub wakes : (start w : S) (s : State) (c : RelayConfig) (heard : List Mail) (m : Mail) → m.body ≡ body.Tick → Course d fits start w c heard s → Course d fits start w c (heard ++ m ∷ []) s
+  abbrev pub wakes : (start w : S) (s : State) (c : RelayConfig) (heard : List Mail) (m : Mail) → m.body ≡ body.Tick → Course d fits carries start w c heard s → Course d fits carries start w c (heard ++ m ∷ []) s
   wakes start w s c heard m tick k =
       record {
         config = k.config;
@@ -180,6 +194,7 @@ module _ {S : Type 0} (d : Bool) (fits : S → Outside → Type 0) where
         not_closed = open_stays s.closed heard m (not_done m body.Tick tick tick_apart) k.not_closed;
         totals = k.totals;
         reached = record { core = record { calls = k.reached.core.calls; may = k.reached.core.may; took = k.reached.core.took ∙ sym (puts_tick heard m tick); reached = k.reached.core.reached }; next = k.reached.next };
+        passes = k.passes;
         delivers = λ is o f opening below.
             let x = k.delivers is o f opening below in
             goes_on fits w s (puts_of (heard ++ m ∷ [])) k.reached.core.calls o x.outside x.fitting x.continues x.explains (subst (λ l. Fits s l x.outside) (sym (puts_tick heard m tick)) x.lane);

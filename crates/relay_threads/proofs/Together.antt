@@ -20,9 +20,12 @@ use Rattle.relay_delivery.proofs.Reported.{IsOnTaken, reports_taken, reports_onc
 use Rattle.relay_core.specs.declared.config.RelayConfig.{RelayConfig}
 use Rattle.relay_core.specs.State.{config_of}
 use Rattle.relay_core.specs.Walk.{report_of}
+use Rattle.relay_lane.specs.Exchanges.{Exchange}
+use Rattle.relay_producer.specs.declared.ends.ClosedEnd.{ClosedEnd}
 use Rattle.relay_producer.specs.Puts.{AreNumberedBy, ops_for}
 use Rattle.relay_producer.specs.States.{ClosedProducerState}
 use Rattle.relay_threads.specs.declared.summary.LaneSummary.{LaneSummary}
+use Rattle.relay_threads.specs.Course.{puts_of}
 use Rattle.relay_threads.specs.DeliveryOfAll.{HavePut, DeliveredLane, AllDelivered}
 use Rattle.relay_threads.specs.Together.{ops_by, reports_at, IsOnPut, AreReportedOnce, BeginsBeside, EndsBeside, IsTrueTogether, IsSoundTogether, IsCompleteTogether, DeliversTogether, AreDeliveredTogether}
 use Rattle.relay_threads.proofs.Delivering.{distinct_numbered, distinct_all}
@@ -158,7 +161,7 @@ none_applied [] os same none = refl
 none_applied (w ∷ ws) [] same none = absurd same
 none_applied (w ∷ ws) (o ∷ os) same none = absurd (none o (inl refl))
 
-module _ {W : Type 0} (describes : W → Bool) (fits : W → Outside → Type 0) (c : RelayConfig) (puts : ℕ → List Op) (wires : List W) (lanes : List (LaneSummary W)) where
+module _ {W : Type 0} (describes : W → Bool) (fits : W → Outside → Type 0) (carries : W → Exchange → W → Type 0) (c : RelayConfig) (puts : ℕ → List Op) (rows : List (List ClosedEnd)) (wires : List W) (lanes : List (LaneSummary W)) where
   -- how a lane and an outside ended
   record EndOfLane (l : ℕ) (taken : List Op) (before : Outside) : Type 0 where
     after : Outside
@@ -181,17 +184,18 @@ module _ {W : Type 0} (describes : W → Bool) (fits : W → Outside → Type 0)
   reports_are (x ∷ ss) zero s e = ap (λ (y : LaneSummary W). map report_of y.reports.items) (some_same x s e)
   reports_are (x ∷ ss) (suc l) s e = reports_are ss l s e
 
-  of_some : (l : ℕ) (start : W) (s : LaneSummary W) → slice_get wires l ≡ Some start → slice_get lanes l ≡ Some s → ((p : ℕ) → AreNumberedBy p 1 (ops_by c puts p)) → DeliveredLane describes fits c puts l start s → OfLane l
+  of_some : (l : ℕ) (start : W) (s : LaneSummary W) → slice_get wires l ≡ Some start → slice_get lanes l ≡ Some s → ((p : ℕ) → AreNumberedBy p 1 (ops_by c puts p)) → DeliveredLane describes fits carries c puts rows l start s → OfLane l
   of_some l start s wire at numbered d =
-      let own = is_own c puts l d.taken d.own d.no_other in
+      let took = puts_of d.finished.messages in
+      let own = is_own c puts l took d.own d.no_other in
       let is = reports_are lanes l s at in
-      let same = is ∙ d.reached.reports in
+      let same = is ∙ d.finished.reached.reports in
       record {
-        taken = d.taken;
+        taken = took;
         own = own;
-        count = λ t e. subst (λ (x : LaneSummary W). x.taken ≡ length d.taken) (some_same s t (sym at ∙ e)) d.count;
-        named = λ r m. reports_taken d.reached.state d.taken d.reached.reached r (subst (λ (rs : List Report). Mem r rs) same m);
-        once = subst (λ (rs : List Report). AllDistinct (names_of rs)) (sym same) (reports_once d.reached.state d.taken d.reached.reached (distinct_own c puts l d.taken own numbered));
+        count = λ t e. subst (λ (x : LaneSummary W). x.taken ≡ length took) (some_same s t (sym at ∙ e)) d.finished.taken;
+        named = λ r m. reports_taken d.finished.reached.state took d.finished.reached.reached r (subst (λ (rs : List Report). Mem r rs) same m);
+        once = subst (λ (rs : List Report). AllDistinct (names_of rs)) (sym same) (reports_once d.finished.reached.state took d.finished.reached.reached (distinct_own c puts l took own numbered));
         delivers = λ before begun.
             let b = begun start wire in
             let x = d.delivers b.is_described before b.fitting b.opening b.below in
@@ -199,9 +203,9 @@ module _ {W : Type 0} (describes : W → Bool) (fits : W → Outside → Type 0)
               after = x.outside;
               ends = λ t e. subst (λ (y : LaneSummary W). EndsBeside fits y before x.outside) (some_same s t (sym at ∙ e))
                   (record { fitting = x.fitting; continues = x.continues; requests = x.requests; applied = x.applied; already = x.already });
-              ops = applied_ops (config_of c) d.taken x.outside;
-              sound = subst (λ (rs : List Report). IsSound (config_of c) d.taken rs x.outside (applied_ops (config_of c) d.taken x.outside)) (sym is) x.sound;
-              complete = subst (λ (rs : List Report). IsComplete d.taken rs (applied_ops (config_of c) d.taken x.outside)) (sym is) x.complete;
+              ops = applied_ops (config_of c) took x.outside;
+              sound = subst (λ (rs : List Report). IsSound (config_of c) took rs x.outside (applied_ops (config_of c) took x.outside)) (sym is) x.sound;
+              complete = subst (λ (rs : List Report). IsComplete took rs (applied_ops (config_of c) took x.outside)) (sym is) x.complete;
             };
       }
 
@@ -239,36 +243,36 @@ module _ {W : Type 0} (describes : W → Bool) (fits : W → Outside → Type 0)
     summary : LaneSummary W
     wire_at : slice_get ws i ≡ Some start
     summary_at : slice_get ss i ≡ Some summary
-    delivered : DeliveredLane describes fits c puts (lane + i) start summary
+    delivered : DeliveredLane describes fits carries c puts rows (lane + i) start summary
 
   record IsPast (ws : List W) (ss : List (LaneSummary W)) (i : ℕ) : Type 0 where
     past : length ws ≤ i
     none_at : slice_get ss i ≡ None
     no_reports : reports_at ss i ≡ []
 
-  find : (lane : ℕ) (ws : List W) (ss : List (LaneSummary W)) → AllDelivered describes fits c puts lane ws ss → (i : ℕ) → IsLaneAt ws ss lane i ⊎ IsPast ws ss i
+  find : (lane : ℕ) (ws : List W) (ss : List (LaneSummary W)) → AllDelivered describes fits carries c puts rows lane ws ss → (i : ℕ) → IsLaneAt ws ss lane i ⊎ IsPast ws ss i
   find lane [] [] d i = inr (record { past = omega arith; none_at = refl; no_reports = refl })
   find lane [] (s ∷ ss) d i = absurd d
   find lane (w ∷ ws) [] d i = absurd d
   find lane (w ∷ ws) (s ∷ ss) d zero =
       let same : lane ≡ lane + 0 = omega arith in
-      inl (record { start = w; summary = s; wire_at = refl; summary_at = refl; delivered = subst (λ (n : ℕ). DeliveredLane describes fits c puts n w s) same d.0 })
+      inl (record { start = w; summary = s; wire_at = refl; summary_at = refl; delivered = subst (λ (n : ℕ). DeliveredLane describes fits carries c puts rows n w s) same d.0 })
   find lane (w ∷ ws) (s ∷ ss) d (suc i) =
       ⊎_elim (λ (x : IsLaneAt ws ss (lane + 1) i).
       let same : (lane + 1) + i ≡ lane + suc i = omega arith in
-      inl (record { start = x.start; summary = x.summary; wire_at = x.wire_at; summary_at = x.summary_at; delivered = subst (λ (n : ℕ). DeliveredLane describes fits c puts n x.start x.summary) same x.delivered }))
+      inl (record { start = x.start; summary = x.summary; wire_at = x.wire_at; summary_at = x.summary_at; delivered = subst (λ (n : ℕ). DeliveredLane describes fits carries c puts rows n x.start x.summary) same x.delivered }))
       (λ (x : IsPast ws ss i). let le = x.past in inr (record { past = omega (arith, le); none_at = x.none_at; no_reports = x.no_reports }))
       (find (lane + 1) ws ss d.1 i)
 
-  each_lane : 0 < c.lanes → length wires ≡ c.lanes → ((p : ℕ) → AreNumberedBy p 1 (ops_by c puts p)) → AllDelivered describes fits c puts 0 wires lanes → (l : ℕ) → OfLane l
+  each_lane : 0 < c.lanes → length wires ≡ c.lanes → ((p : ℕ) → AreNumberedBy p 1 (ops_by c puts p)) → AllDelivered describes fits carries c puts rows 0 wires lanes → (l : ℕ) → OfLane l
   each_lane some long numbered d l =
       ⊎_elim (λ (x : IsLaneAt wires lanes 0 l).
       let same : 0 + l ≡ l = omega arith in
-      of_some l x.start x.summary x.wire_at x.summary_at numbered (subst (λ (n : ℕ). DeliveredLane describes fits c puts n x.start x.summary) same x.delivered))
+      of_some l x.start x.summary x.wire_at x.summary_at numbered (subst (λ (n : ℕ). DeliveredLane describes fits carries c puts rows n x.start x.summary) same x.delivered))
       (λ (x : IsPast wires lanes l). let le = x.past in of_none l x.none_at x.no_reports some (omega (arith, le, long)))
       (find 0 wires lanes d l)
 
-  as_long : (lane : ℕ) (ws : List W) (ss : List (LaneSummary W)) → AllDelivered describes fits c puts lane ws ss → length ss ≡ length ws
+  as_long : (lane : ℕ) (ws : List W) (ss : List (LaneSummary W)) → AllDelivered describes fits carries c puts rows lane ws ss → length ss ≡ length ws
   as_long lane [] [] d = refl
   as_long lane [] (s ∷ ss) d = absurd d
   as_long lane (w ∷ ws) [] d = absurd d
@@ -375,7 +379,7 @@ module _ {W : Type 0} (describes : W → Bool) (fits : W → Outside → Type 0)
       delivers = λ before begun. deliver_together before (λ l. (each l).delivers (before l) (begun l));
     }
 
-  pub delivered_together : (cs : List ClosedProducerState) → length cs ≡ c.producers → HavePut puts 0 cs → 0 < c.lanes → length wires ≡ c.lanes → AllDelivered describes fits c puts 0 wires lanes → AreDeliveredTogether describes fits c puts wires lanes
+  pub delivered_together : (cs : List ClosedProducerState) → length cs ≡ c.producers → HavePut puts 0 cs → 0 < c.lanes → length wires ≡ c.lanes → AllDelivered describes fits carries c puts rows 0 wires lanes → AreDeliveredTogether describes fits c puts wires lanes
   delivered_together cs n h some long d =
       let numbered = all_numbered c puts cs n h in
       all_together numbered (each_lane some long numbered d) (as_long 0 wires lanes d ∙ long)

@@ -44,6 +44,7 @@ use Rattle.relay_lane.specs.Delivers.{GoesOn, WorkedOn}
 use Rattle.relay_lane.specs.Turns.{Turn, Sends, Fails, Settles, Pauses, after_send, after_ticks, after_turn, after_turns, AllMayTurn, MayTurn, Stays, Ticked}
 use Rattle.relay_lane.proofs.Once.{fresh_has_none, take_adds_one, work_keeps_times, forgetting_passes_on}
 use Rattle.relay_lane.proofs.Reaching.{turn_is_reached, ticks_reached, reached_is_orderly}
+use Rattle.relay_lane.specs.Exchanges.{Exchange}
 use Rattle.relay_threads.specs.declared.run.Message.{Message}
 use Rattle.relay_threads.specs.declared.run.Message.TheVariants.{Mark, Other, Nothing}
 use Rattle.relay_threads.specs.Course.{puts_of, IsBelow, Course}
@@ -156,10 +157,10 @@ turns_add taken going (t ∷ ts) s may r =
 
 -- ---- it works, and tells nothing
 
-module _ {S : Type 0} (d : Bool) (fits : S → Outside → Type 0) where
+module _ {S : Type 0} (d : Bool) (fits : S → Outside → Type 0) (carries : S → Exchange → S → Type 0) where
   -- more is noted and reported
-  adds_told : (first v w : S) (c : RelayConfig) (start told : ℕ → Option Told) (k : ℕ) (s t : State) (heard : List Mail) → (h : HasTold d fits first v c start told k s heard) → (course : Course d fits first w c heard t)
-      → noted_in course.reached.core.calls (fresh_state t.core.config) ≡ h.telling.applied ++ t.successes → Adds (puts_of heard) s t → ((n : OpName) → times n t ≡ times n s) → HasTold d fits first w c start told k t heard
+  adds_told : (first v w : S) (c : RelayConfig) (start told : ℕ → Option Told) (k : ℕ) (s t : State) (heard : List Mail) → (h : HasTold d fits carries first v c start told k s heard) → (course : Course d fits carries first w c heard t)
+      → noted_in course.reached.core.calls (fresh_state t.core.config) ≡ h.telling.applied ++ t.successes → Adds (puts_of heard) s t → ((n : OpName) → times n t ≡ times n s) → HasTold d fits carries first w c start told k t heard
   adds_told first v w c start told k s t heard h course noted a same =
       let l = h.telling in
       record {
@@ -181,36 +182,36 @@ module _ {S : Type 0} (d : Bool) (fits : S → Outside → Type 0) where
         };
       }
 
-  pub works_told : (going : Turn → State → Bool) (v w : S) (s t : State) → WorkedOn d fits going v w s t → Stays s t → StaysTold d fits v w s t
+  pub works_told : (going : Turn → State → Bool) (v w : S) (s t : State) → WorkedOn d fits carries going v w s t → Stays s t → StaysTold d fits carries v w s t
   works_told going v w s t x stays told k heard first c start h =
       let ops = puts_of heard in
       let cs = called_in x.worked.turns s in
       let r = h.course.reached in
       let a : Adds ops s t = subst (Adds ops s) (sym x.worked.reached) (turns_add ops going x.worked.turns s x.worked.may r) in
-      adds_told first v w c start told k s t heard h (works d fits going first v w s t c heard x stays h.course)
+      adds_told first v w c start told k s t heard h (works d fits carries going first v w s t c heard x stays h.course)
       (noted_more s ops cs t.core.config h.telling.applied t.successes r a.config h.telling.noted (work_notes going s t x.worked r.next)) a (λ n. work_keeps_times going s t n x.worked)
 
-  pub as_told : (v : S) (s t : State) → t ≡ s → StaysTold d fits v v s t
-  as_told v s t e told k heard first c start h = subst (λ z. HasTold d fits first v c start told k z heard) (sym e) h
+  pub as_told : (v : S) (s t : State) → t ≡ s → StaysTold d fits carries v v s t
+  as_told v s t e told k heard first c start h = subst (λ z. HasTold d fits carries first v c start told k z heard) (sym e) h
 
-  pub flushed_told : (v : S) (s : State) → StaysTold d fits v v s (after_flush s)
+  pub flushed_told : (v : S) (s : State) → StaysTold d fits carries v v s (after_flush s)
   flushed_told v s told k heard first c start h =
-      adds_told first v v c start told k s (after_flush s) heard h (marks d fits first v s c heard (mark_of s) s.successes h.course) h.telling.noted
+      adds_told first v v c start told k s (after_flush s) heard h (marks d fits carries first v s c heard (mark_of s) s.successes h.course) h.telling.noted
       (adds_none (puts_of heard) s (after_flush s) refl refl refl) (λ n. refl)
 
-  pub ticked_told : (v : S) (s t : State) → Ticked s t → StaysTold d fits v v s t
+  pub ticked_told : (v : S) (s t : State) → Ticked s t → StaysTold d fits carries v v s t
   ticked_told v s t x told k heard first c start h =
       let u = after_ticks x.ticks s in
-      subst (λ z. HasTold d fits first v c start told k z heard) (sym x.reached)
-      (adds_told first v v c start told k s u heard h (ticks d fits first v x.ticks s c heard h.course)
+      subst (λ z. HasTold d fits carries first v c start told k z heard) (sym x.reached)
+      (adds_told first v v c start told k s u heard h (ticks d fits carries first v x.ticks s c heard h.course)
       (noted_more s (puts_of heard) (Ticks (s.core.clock + x.ticks) ∷ []) s.core.config h.telling.applied s.successes h.course.reached refl h.telling.noted (sym (append-nil s.successes)))
       (adds_none (puts_of heard) s u refl refl refl) (λ n. refl))
 
   -- ---- at the start
 
-  pub fresh_told : (v : S) (start : ℕ → Option Told) (c : RelayConfig) (k : ℕ) (s : State) (heard : List Mail) → s ≡ fresh c → heard ≡ [] → k ≡ 0 → HasTold d fits v v c start start k s heard
-  fresh_told v start c k s heard is none zero_told = subst (λ (z : State × (List Mail × ℕ)). HasTold d fits v v c start start z.1.1 z.0 z.1.0) (λ i. (sym is i, (sym none i, sym zero_told i))) (record {
-    course = fresh_course d fits v c;
+  pub fresh_told : (v : S) (start : ℕ → Option Told) (c : RelayConfig) (k : ℕ) (s : State) (heard : List Mail) → s ≡ fresh c → heard ≡ [] → k ≡ 0 → HasTold d fits carries v v c start start k s heard
+  fresh_told v start c k s heard is none zero_told = subst (λ (z : State × (List Mail × ℕ)). HasTold d fits carries v v c start start z.1.1 z.0 z.1.0) (λ i. (sym is i, (sym none i, sym zero_told i))) (record {
+    course = fresh_course d fits carries v c;
     telling = record {
       applied = [];
       reported = [];
@@ -232,9 +233,9 @@ op_adds taken s sender body.Tick = adds_none taken s (after_take s sender body.T
 op_adds taken s sender body.Flush = adds_none taken s (after_take s sender body.Flush) refl refl refl
 op_adds taken s sender body.Done = adds_none taken s (after_take s sender body.Done) refl refl refl
 
-module _ {S : Type 0} (d : Bool) (fits : S → Outside → Type 0) where
+module _ {S : Type 0} (d : Bool) (fits : S → Outside → Type 0) (carries : S → Exchange → S → Type 0) where
   -- more was taken
-  hears_told : (first v : S) (c : RelayConfig) (start told : ℕ → Option Told) (k : ℕ) (s : State) (heard : List Mail) (m : Mail) → m.sender < length s.closed → HasTold d fits first v c start told k s heard → HasTold d fits first v c start told k (after_take s m.sender m.body) (heard ++ m ∷ [])
+  hears_told : (first v : S) (c : RelayConfig) (start told : ℕ → Option Told) (k : ℕ) (s : State) (heard : List Mail) (m : Mail) → m.sender < length s.closed → HasTold d fits carries first v c start told k s heard → HasTold d fits carries first v c start told k (after_take s m.sender m.body) (heard ++ m ∷ [])
   hears_told first v c start told k s heard m lt h =
       let l = h.telling in
       let t = after_take s m.sender m.body in
@@ -242,7 +243,7 @@ module _ {S : Type 0} (d : Bool) (fits : S → Outside → Type 0) where
       let put = puts_push heard m in
       let x = hears s m.sender m.body in
       record {
-        course = takes d fits first v s c heard m lt h.course;
+        course = takes d fits carries first v s c heard m lt h.course;
         telling = record {
           noted = noted_more s (puts_of heard) (heard_as s m.body) t.core.config l.applied t.successes h.course.reached x.same l.noted x.notes;
           applied = l.applied;
@@ -264,12 +265,12 @@ module _ {S : Type 0} (d : Bool) (fits : S → Outside → Type 0) where
       }
 
   -- a tick that only woke it
-  wakes_told : (first v : S) (c : RelayConfig) (start told : ℕ → Option Told) (k : ℕ) (s : State) (heard : List Mail) (m : Mail) → m.body ≡ body.Tick → HasTold d fits first v c start told k s heard → HasTold d fits first v c start told k s (heard ++ m ∷ [])
+  wakes_told : (first v : S) (c : RelayConfig) (start told : ℕ → Option Told) (k : ℕ) (s : State) (heard : List Mail) (m : Mail) → m.body ≡ body.Tick → HasTold d fits carries first v c start told k s heard → HasTold d fits carries first v c start told k s (heard ++ m ∷ [])
   wakes_told first v c start told k s heard m tick h =
       let l = h.telling in
       let same = puts_tick heard m tick in
       record {
-        course = wakes d fits first v s c heard m tick h.course;
+        course = wakes d fits carries first v s c heard m tick h.course;
         telling = record {
           noted = l.noted;
           applied = l.applied;
@@ -283,18 +284,18 @@ module _ {S : Type 0} (d : Bool) (fits : S → Outside → Type 0) where
         };
       }
 
-  pub takes_told : (v : S) (told : ℕ → Option Told) (k : ℕ) (s t : State) (old new : List Mail) → steps.Takes s t old new → GoesOnTelling d fits v v told told k k s t old new
+  pub takes_told : (v : S) (told : ℕ → Option Told) (k : ℕ) (s t : State) (old new : List Mail) → steps.Takes s t old new → GoesOnTelling d fits carries v v told told k k s t old new
   takes_told v told k s t old new x first c start h =
-      ⊎_elim {C = HasTold d fits first v c start told k t new}
-      (λ (e : t ≡ after_take s x.mail.sender x.mail.body). subst (λ (z : List Mail × State). HasTold d fits first v c start told k z.1 z.0) (λ i. (sym x.taken i, sym e i)) (hears_told first v c start told k s old x.mail x.sender h))
-      (λ (e : (x.mail.body ≡ body.Tick) × (t ≡ s)). subst (λ (z : List Mail × State). HasTold d fits first v c start told k z.1 z.0) (λ i. (sym x.taken i, sym e.1 i)) (wakes_told first v c start told k s old x.mail e.0 h))
+      ⊎_elim {C = HasTold d fits carries first v c start told k t new}
+      (λ (e : t ≡ after_take s x.mail.sender x.mail.body). subst (λ (z : List Mail × State). HasTold d fits carries first v c start told k z.1 z.0) (λ i. (sym x.taken i, sym e i)) (hears_told first v c start told k s old x.mail x.sender h))
+      (λ (e : (x.mail.body ≡ body.Tick) × (t ≡ s)). subst (λ (z : List Mail × State). HasTold d fits carries first v c start told k z.1 z.0) (λ i. (sym x.taken i, sym e.1 i)) (wakes_told first v c start told k s old x.mail e.0 h))
       x.reached
 
   -- a message was taken, or none was there
-  pub takes_some_told : (v : S) (told : ℕ → Option Told) (k : ℕ) (s t : State) (old new : List Mail) (m : Message) → (m ≢ Nothing → steps.Takes s t old new) → (m ≡ Nothing → (t ≡ s) × (new ≡ old)) → GoesOnTelling d fits v v told told k k s t old new
+  pub takes_some_told : (v : S) (told : ℕ → Option Told) (k : ℕ) (s t : State) (old new : List Mail) (m : Message) → (m ≢ Nothing → steps.Takes s t old new) → (m ≡ Nothing → (t ≡ s) × (new ≡ old)) → GoesOnTelling d fits carries v v told told k k s t old new
   takes_some_told v told k s t old new Mark some none = takes_told v told k s t old new (some (λ e. absurd (cc)))
   takes_some_told v told k s t old new Other some none = takes_told v told k s t old new (some (λ e. absurd (cc)))
-  takes_some_told v told k s t old new Nothing some none = λ first c start h. subst (λ (z : List Mail × State). HasTold d fits first v c start told k z.1 z.0) (λ i. (sym (none refl).1 i, sym (none refl).0 i)) h
+  takes_some_told v told k s t old new Nothing some none = λ first c start h. subst (λ (z : List Mail × State). HasTold d fits carries first v c start told k z.1 z.0) (λ i. (sym (none refl).1 i, sym (none refl).0 i)) h
 
 -- ---- it tells
 
@@ -386,34 +387,34 @@ pub tells_more : (t0 t1 t2 : ℕ → Option Told) (j k l : ℕ) (r s t : State) 
 tells_more t0 t1 t2 j k l r s t x y all start heard h = y all start heard (x all start heard h)
 
 -- a lane that tells is where it was
-pub goes_on_by : {S : Type 0} (d : Bool) (fits : S → Outside → Type 0) (v : S) (old new : ℕ → Option Told) (k l : ℕ) (s t : State) (heard : List Mail) → t ≡ without_successes s → TellsMore old new k l s t → GoesOnTelling d fits v v old new k l s t heard heard
-goes_on_by d fits v old new k l s t heard e x first g start h =
+pub goes_on_by : {S : Type 0} (d : Bool) (fits : S → Outside → Type 0) (carries : S → Exchange → S → Type 0) (v : S) (old new : ℕ → Option Told) (k l : ℕ) (s t : State) (heard : List Mail) → t ≡ without_successes s → TellsMore old new k l s t → GoesOnTelling d fits carries v v old new k l s t heard heard
+goes_on_by d fits carries v old new k l s t heard e x first g start h =
     let all = noted_in h.course.reached.core.calls (fresh_state s.core.config) in
-    subst (λ z. HasTold d fits first v g start new l z heard) (sym e) (record {
-      course = marks d fits first v s g heard s.mark [] h.course;
+    subst (λ z. HasTold d fits carries first v g start new l z heard) (sym e) (record {
+      course = marks d fits carries first v s g heard s.mark [] h.course;
       telling = subst (λ z. Telling all start new l z heard) e (x all start heard h.telling);
     })
 
 -- the lane that has ended
-pub goes_on_there : {S : Type 0} (d : Bool) (fits : S → Outside → Type 0) (v : S) (old new : ℕ → Option Told) (k l : ℕ) (s : State) (heard : List Mail) → TellsMore old new k l s s → GoesOnTelling d fits v v old new k l s s heard heard
-goes_on_there d fits v old new k l s heard x first g start h = record { course = h.course; telling = x (noted_in h.course.reached.core.calls (fresh_state s.core.config)) start heard h.telling }
+pub goes_on_there : {S : Type 0} (d : Bool) (fits : S → Outside → Type 0) (carries : S → Exchange → S → Type 0) (v : S) (old new : ℕ → Option Told) (k l : ℕ) (s : State) (heard : List Mail) → TellsMore old new k l s s → GoesOnTelling d fits carries v v old new k l s s heard heard
+goes_on_there d fits carries v old new k l s heard x first g start h = record { course = h.course; telling = x (noted_in h.course.reached.core.calls (fresh_state s.core.config)) start heard h.telling }
 
 -- one after another
-pub goes_on_telling : {S : Type 0} (d e : Bool) (fits : S → Outside → Type 0) (u v w : S) (t0 t1 t2 : ℕ → Option Told) (j k l : ℕ) (r s t : State) (a b c : List Mail) → e ≡ d → GoesOnTelling d fits u v t0 t1 j k r s a b → GoesOnTelling e fits v w t1 t2 k l s t b c → GoesOnTelling d fits u w t0 t2 j l r t a c
-goes_on_telling d e fits u v w t0 t1 t2 j k l r s t a b c same x y first g start h =
-    subst (λ z. HasTold z fits first w g start t2 l t c) same (y first g start (subst (λ z. HasTold z fits first v g start t1 k s b) (sym same) (x first g start h)))
+pub goes_on_telling : {S : Type 0} (d e : Bool) (fits : S → Outside → Type 0) (carries : S → Exchange → S → Type 0) (u v w : S) (t0 t1 t2 : ℕ → Option Told) (j k l : ℕ) (r s t : State) (a b c : List Mail) → e ≡ d → GoesOnTelling d fits carries u v t0 t1 j k r s a b → GoesOnTelling e fits carries v w t1 t2 k l s t b c → GoesOnTelling d fits carries u w t0 t2 j l r t a c
+goes_on_telling d e fits carries u v w t0 t1 t2 j k l r s t a b c same x y first g start h =
+    subst (λ z. HasTold z fits carries first w g start t2 l t c) same (y first g start (subst (λ z. HasTold z fits carries first v g start t1 k s b) (sym same) (x first g start h)))
 
 -- when it tells nothing
-pub stays_told : {S : Type 0} (d e : Bool) (fits : S → Outside → Type 0) (u v w : S) (r s t : State) → e ≡ d → StaysTold d fits u v r s → StaysTold e fits v w s t → StaysTold d fits u w r t
-stays_told d e fits u v w r s t same x y told k heard = goes_on_telling d e fits u v w told told told k k k r s t heard heard heard same (x told k heard) (y told k heard)
+pub stays_told : {S : Type 0} (d e : Bool) (fits : S → Outside → Type 0) (carries : S → Exchange → S → Type 0) (u v w : S) (r s t : State) → e ≡ d → StaysTold d fits carries u v r s → StaysTold e fits carries v w s t → StaysTold d fits carries u w r t
+stays_told d e fits carries u v w r s t same x y told k heard = goes_on_telling d e fits carries u v w told told told k k k r s t heard heard heard same (x told k heard) (y told k heard)
 
 -- the same from the start
-pub told_on : {S : Type 0} (d e : Bool) (fits : S → Outside → Type 0) (first v w : S) (g : RelayConfig) (start old new : ℕ → Option Told) (k l : ℕ) (s t : State) (a b : List Mail) → e ≡ d → HasTold d fits first v g start old k s a → GoesOnTelling e fits v w old new k l s t a b → HasTold d fits first w g start new l t b
-told_on d e fits first v w g start old new k l s t a b same h x = subst (λ z. HasTold z fits first w g start new l t b) same (x first g start (subst (λ z. HasTold z fits first v g start old k s a) (sym same) h))
+pub told_on : {S : Type 0} (d e : Bool) (fits : S → Outside → Type 0) (carries : S → Exchange → S → Type 0) (first v w : S) (g : RelayConfig) (start old new : ℕ → Option Told) (k l : ℕ) (s t : State) (a b : List Mail) → e ≡ d → HasTold d fits carries first v g start old k s a → GoesOnTelling e fits carries v w old new k l s t a b → HasTold d fits carries first w g start new l t b
+told_on d e fits carries first v w g start old new k l s t a b same h x = subst (λ z. HasTold z fits carries first w g start new l t b) same (x first g start (subst (λ z. HasTold z fits carries first v g start old k s a) (sym same) h))
 
 -- all reports were told of, if at least as many were as there are
-pub told_of_all : {S : Type 0} (d : Bool) (fits : S → Outside → Type 0) (first v : S) (g : RelayConfig) (start told : ℕ → Option Told) (k : ℕ) (s : State) (heard : List Mail) → (x : HasTold d fits first v g start told k s heard) → length s.core.reports ≤ k → x.telling.reported ≡ s.core.reports
-told_of_all d fits first v g start told k s heard x le =
+pub told_of_all : {S : Type 0} (d : Bool) (fits : S → Outside → Type 0) (carries : S → Exchange → S → Type 0) (first v : S) (g : RelayConfig) (start told : ℕ → Option Told) (k : ℕ) (s : State) (heard : List Mail) → (x : HasTold d fits carries first v g start told k s heard) → length s.core.reports ≤ k → x.telling.reported ≡ s.core.reports
+told_of_all d fits carries first v g start told k s heard x le =
     let h = x.telling in
     let n : length s.core.reports ≡ length h.reported + length h.waiting = ap length h.reports ∙ length-append h.reported h.waiting in
     let none : h.waiting ≡ [] = empty h.waiting (let c = h.counted in omega (arith, n, c, le)) in
@@ -489,7 +490,7 @@ module _ (s : State) (taken : List Op) (applied : List Success) (once : (n : OpN
       let there = facts.nothing_lost tells t.place t.op (subst (λ ops. slice_get ops t.place ≡ Some t.op) (sym f.took) t.was_taken) in
       ⊎_elim held (λ z. ⊎_elim applied_at reported z) there
 
-module _ {S : Type 0} (d : Bool) (fits : S → Outside → Type 0) (first now : S) (g : RelayConfig) (start told : ℕ → Option Told) (k : ℕ) (s : State) (heard : List Mail) (h : HasTold d fits first now g start told k s heard) (distinct : HasDistinctNames (puts_of heard)) where
+module _ {S : Type 0} (d : Bool) (fits : S → Outside → Type 0) (carries : S → Exchange → S → Type 0) (first now : S) (g : RelayConfig) (start told : ℕ → Option Told) (k : ℕ) (s : State) (heard : List Mail) (h : HasTold d fits carries first now g start told k s heard) (distinct : HasDistinctNames (puts_of heard)) where
   -- beside an outside that explains its calls, from a start of some kind
   truly_from : (begin : Config → Core → Type 0) (past : Config → Past) → ((g : Config) (w : Write) → (past g).writes w → ⊥) → ((g : Config) (c : Core) → CameAboutFrom begin g c → CoreFacts g (past g) c) → (o p : Outside) → IsOpening o → begin s.core.config (new_core o)
       → Explains h.course.reached.core.calls o p → ((f : delivery.FitsFrom begin s.core (puts_of heard) p) → TellsOwn s.core.config (past s.core.config) f.core.outside.runs) → IsToldTruly s.core.config (puts_of heard) h.telling.applied h.telling.reported p

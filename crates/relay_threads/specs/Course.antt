@@ -10,6 +10,7 @@ use Rattle.relay_core.specs.declared.config.RelayConfig.{RelayConfig}
 use Rattle.relay_core.specs.State.{State, config_of, all_closed, is_put}
 use Rattle.relay_core.specs.Ties.{ops_of}
 use Rattle.relay_lane.specs.Delivers.{GoesOn}
+use Rattle.relay_lane.specs.Exchanges.{Exchange, Passes}
 use Rattle.relay_lane.specs.Reach.{IsReached}
 use Rattle.relay_threads.specs.declared.lane_end.LaneEndKind.{LaneEndKind}
 use Rattle.relay_threads.specs.declared.lane_end.LaneEndKind.TheVariants.{Finished, Memory, Gone}
@@ -57,8 +58,9 @@ DeliversFrom describes fits start now c heard s calls =
     IsTrue describes → (o : Outside) → fits start o → IsOpening o → IsBelow (first_in c.epoch) o → GoesOn fits now s (puts_of heard) calls o
 
 -- A lane with this config that started fresh has heard these messages, and worked on its wire; it reached its state
--- by calls that it may make, whatever the wire returned. If the wire describes the outside, that explains these calls.
-pub record Course {S : Type 0} (describes : Bool) (fits : S → Outside → Type 0) (start now : S) (c : RelayConfig) (heard : List Mail) (s : State) : Type 0 where
+-- by calls that it may make, whatever the wire returned, and these are exactly what passed over the wire since. If the
+-- wire describes the outside, that explains these calls.
+pub record Course {S : Type 0} (describes : Bool) (fits : S → Outside → Type 0) (carries : S → Exchange → S → Type 0) (start now : S) (c : RelayConfig) (heard : List Mail) (s : State) : Type 0 where
   pub config : s.config ≡ c
   pub core : s.core.config ≡ config_of c
   pub taken : s.core.taken ≡ length (puts_of heard)
@@ -67,14 +69,15 @@ pub record Course {S : Type 0} (describes : Bool) (fits : S → Outside → Type
   pub not_closed : KnowsOpen s.closed heard
   pub totals : HasTotals s
   pub reached : IsReached s (puts_of heard)
+  pub passes : Passes carries reached.core.calls 0 start s.core.requests now
   pub delivers : DeliversFrom describes fits start now c heard s reached.core.calls
 
 -- How it ended, and what it heard of what was taken. If it finished, each sender closed and nothing is held; if it
 -- ended as Gone, not all of them had closed.
-pub record EndsAs {S : Type 0} (describes : Bool) (fits : S → Outside → Type 0) (start now : S) (c : RelayConfig) (taken : List Mail) (kind : LaneEndKind) (s : State) : Type 0 where
+pub record EndsAs {S : Type 0} (describes : Bool) (fits : S → Outside → Type 0) (carries : S → Exchange → S → Type 0) (start now : S) (c : RelayConfig) (taken : List Mail) (kind : LaneEndKind) (s : State) : Type 0 where
   pub messages : List Mail
   pub heard : HasHeard kind taken messages
-  pub course : Course describes fits start now c messages s
+  pub course : Course describes fits carries start now c messages s
   pub closed : kind ≡ Finished → all_closed s ≡ true
   pub not_closed : kind ≡ Gone → OneIsOpen (c.producers + 1) taken
   pub none_held : kind ≡ Finished → s.core.held ≡ []

@@ -4,6 +4,7 @@ use Rattle.std.specs.declared.thread.PromisedHandle.{PromisedHandle}
 use Rattle.relay_results.specs.Outside.{Outside}
 use Rattle.relay_queue.specs.Ends.{Queue}
 use Rattle.relay_core.specs.declared.config.RelayConfig.{RelayConfig}
+use Rattle.relay_lane.specs.Exchanges.{Exchange}
 use Rattle.relay_threads.specs.declared.lane_end.LaneEnd.{LaneEnd}
 use Rattle.relay_threads.specs.declared.thread.LanePromise.{LanePromise}
 use Rattle.relay_threads.specs.Promises.{KeepsCourse, KeepsTold}
@@ -29,19 +30,19 @@ module _ {W T : Type 0} where
   AreLanesOf c (h ∷ hs) = ((h.promise.config.value ≡ c) × (h.promise.take.value.senders ≡ c.producers + 1)) × AreLanesOf c hs
 
   -- each lane has ended as its thread promised, in order
-  abbrev pub EndAsPromised : (W → Bool) → (W → Outside → Type 0) → List (LaneHandle W T) → List (LaneEnd W) → Type 0
-  EndAsPromised describes fits [] [] = Unit {0}
-  EndAsPromised describes fits [] (e ∷ es) = ⊥
-  EndAsPromised describes fits (h ∷ hs) [] = ⊥
-  EndAsPromised describes fits (h ∷ hs) (e ∷ es) =
-      KeepsCourse describes fits h.promise.config.value h.promise.take.value h.promise.wire.value e × EndAsPromised describes fits hs es
+  abbrev pub EndAsPromised : (W → Bool) → (W → Outside → Type 0) → (W → Exchange → W → Type 0) → List (LaneHandle W T) → List (LaneEnd W) → Type 0
+  EndAsPromised describes fits carries [] [] = Unit {0}
+  EndAsPromised describes fits carries [] (e ∷ es) = ⊥
+  EndAsPromised describes fits carries (h ∷ hs) [] = ⊥
+  EndAsPromised describes fits carries (h ∷ hs) (e ∷ es) =
+      KeepsCourse describes fits carries h.promise.config.value h.promise.take.value h.promise.wire.value e × EndAsPromised describes fits carries hs es
 
   -- each lane has told what its thread promised, in order
-  abbrev pub ToldAsPromised : (W → Bool) → (W → Outside → Type 0) → (T → ℕ → Option Told) → List (LaneHandle W T) → List (LaneEnd W) → List T → Type 0
-  ToldAsPromised describes fits told [] [] [] = Unit {0}
-  ToldAsPromised describes fits told [] [] (t ∷ ts) = ⊥
-  ToldAsPromised describes fits told [] (e ∷ es) ts = ⊥
-  ToldAsPromised describes fits told (h ∷ hs) [] ts = ⊥
-  ToldAsPromised describes fits told (h ∷ hs) (e ∷ es) [] = ⊥
-  ToldAsPromised describes fits told (h ∷ hs) (e ∷ es) (t ∷ ts) =
-      KeepsTold describes fits told h.promise.config.value h.promise.wire.value h.promise.tell.value t e × ToldAsPromised describes fits told hs es ts
+  abbrev pub ToldAsPromised : (W → Bool) → (W → Outside → Type 0) → (W → Exchange → W → Type 0) → (T → ℕ → Option Told) → List (LaneHandle W T) → List (LaneEnd W) → List T → Type 0
+  ToldAsPromised describes fits carries told [] [] [] = Unit {0}
+  ToldAsPromised describes fits carries told [] [] (t ∷ ts) = ⊥
+  ToldAsPromised describes fits carries told [] (e ∷ es) ts = ⊥
+  ToldAsPromised describes fits carries told (h ∷ hs) [] ts = ⊥
+  ToldAsPromised describes fits carries told (h ∷ hs) (e ∷ es) [] = ⊥
+  ToldAsPromised describes fits carries told (h ∷ hs) (e ∷ es) (t ∷ ts) =
+      KeepsTold describes fits carries told h.promise.config.value h.promise.wire.value h.promise.tell.value t e × ToldAsPromised describes fits carries told hs es ts

@@ -23,6 +23,7 @@ use Rattle.relay_core.specs.Endings.{is_success_as}
 use Rattle.relay_core.specs.State.{State}
 use Rattle.relay_core.specs.Successes.{successes_from}
 use Rattle.relay_lane.specs.Delivers.{GoesOn}
+use Rattle.relay_lane.specs.Exchanges.{Exchange}
 use Rattle.relay_lane.specs.Once.{is_op_as, times}
 use Rattle.relay_threads.specs.declared.lane_end.LaneEndKind.{LaneEndKind}
 use Rattle.relay_threads.specs.declared.lane_end.LaneEndKind.TheVariants.{Finished}
@@ -136,10 +137,10 @@ pub record Telling (all : List Success) (start told : ℕ → Option Told) (numb
 abbrev pub TellsMore : (old new : ℕ → Option Told) → (k l : ℕ) → State → State → Type 0
 TellsMore old new k l s t = (all : List Success) (start : ℕ → Option Told) (heard : List Mail) → Telling all start old k s heard → Telling all start new l t heard
 
-module _ {S : Type 0} (describes : Bool) (fits : S → Outside → Type 0) where
+module _ {S : Type 0} (describes : Bool) (fits : S → Outside → Type 0) (carries : S → Exchange → S → Type 0) where
   -- a lane that heard these messages and came to its state by this course has told of what its calls noted
   pub record HasTold (first now : S) (c : RelayConfig) (start told : ℕ → Option Told) (number : ℕ) (s : State) (heard : List Mail) : Type 0 where
-    pub course : Course describes fits first now c heard s
+    pub course : Course describes fits carries first now c heard s
     pub telling : Telling (noted_in course.reached.core.calls (fresh_state s.core.config)) start told number s heard
 
   -- wherever the lane began, and whatever it told before, it goes on
@@ -164,11 +165,11 @@ pub record GoesOnTruly {S : Type 0} (fits : S → Outside → Type 0) (now : S) 
 -- explains its calls, if the versions stored at the start were below those of the lane, or if the outside states the
 -- stored version in each conflict and none of them is one that the lane assigns; and each opening that fitted the wire
 -- at the start is continued to the end by an outside that explains these calls, beside which it is true.
-pub record EndsTold {S : Type 0} (describes : Bool) (fits : S → Outside → Type 0) (first now : S) (start told : ℕ → Option Told) (c : RelayConfig) (taken : List Mail) (kind : LaneEndKind) (s : State) : Type 0 where
+pub record EndsTold {S : Type 0} (describes : Bool) (fits : S → Outside → Type 0) (carries : S → Exchange → S → Type 0) (first now : S) (start told : ℕ → Option Told) (c : RelayConfig) (taken : List Mail) (kind : LaneEndKind) (s : State) : Type 0 where
   pub messages : List Mail
   pub heard : HasHeard kind taken messages
   pub number : ℕ
-  pub has_told : HasTold describes fits first now c start told number s messages
+  pub has_told : HasTold describes fits carries first now c start told number s messages
   pub none_noted : s.successes ≡ []
   pub all_reported : kind ≡ Finished → has_told.telling.reported ≡ s.core.reports
   pub explained : HasDistinctNames (puts_of messages) → (o p : Outside) → Begins s.core.config.first o → Explains has_told.course.reached.core.calls o p → IsToldTruly s.core.config (puts_of messages) has_told.telling.applied has_told.telling.reported p

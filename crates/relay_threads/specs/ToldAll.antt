@@ -17,19 +17,20 @@ use Rattle.relay_core.specs.Endings.{is_success_as, is_report_as}
 use Rattle.relay_core.specs.State.{config_of}
 use Rattle.relay_core.specs.Walk.{report_of}
 use Rattle.relay_lane.specs.Once.{is_op_as}
+use Rattle.relay_lane.specs.Exchanges.{Exchange}
 use Rattle.relay_producer.specs.declared.ends.ClosedEnd.{ClosedEnd}
 use Rattle.relay_threads.specs.declared.summary.LaneSummary.{LaneSummary}
 use Rattle.relay_threads.specs.Course.{puts_of, IsBelow}
-use Rattle.relay_threads.specs.Ending.{CameTo, Carries}
+use Rattle.relay_threads.specs.Ending.{CameTo, LeadsTo}
 use Rattle.relay_threads.specs.Sums.{AreMetAt}
 use Rattle.relay_threads.specs.Told.{Told, Shows, noted_in, IsOfTaken, IsToldTruly}
 
-module _ {W T : Type 0} (describes : W → Bool) (fits : W → Outside → Type 0) (told : T → ℕ → Option Told) (c : RelayConfig) where
+module _ {W T : Type 0} (describes : W → Bool) (fits : W → Outside → Type 0) (carries : W → Exchange → W → Type 0) (told : T → ℕ → Option Told) (c : RelayConfig) where
   -- An outside fits the wire of the summary, continues the one before and explains the lane's calls, and delivery is sound
-  -- and complete for it (`Carries`); and what was told is true beside it.
-  pub record CarriesTruly (ops : List Op) (calls : List Call) (applied : List Success) (s : LaneSummary W) (before : Outside) : Type 0 where
-    pub carries : Carries describes fits c ops calls s before
-    pub truly : IsToldTruly (config_of c) ops applied (map report_of s.reports.items) carries.outside
+  -- and complete for it (`LeadsTo`); and what was told is true beside it.
+  pub record LeadsToTruly (ops : List Op) (calls : List Call) (applied : List Success) (s : LaneSummary W) (before : Outside) : Type 0 where
+    pub delivery : LeadsTo describes fits carries c ops calls s before
+    pub truly : IsToldTruly (config_of c) ops applied (map report_of s.reports.items) delivery.outside
 
   -- What a lane has told that finished, and took what each sender sent: that these operations ended as applied, and the
   -- reports of its summary. It told of each operation once. What it told of as applied is what the answers in its calls
@@ -45,11 +46,11 @@ module _ {W T : Type 0} (describes : W → Bool) (fits : W → Outside → Type 
     pub shown : Shows (told first) (told last) applied (map report_of s.reports.items)
     pub once : (n : OpName) → count (is_success_as n) applied + count (is_report_as n) (map report_of s.reports.items) ≡ count (is_op_as n) (puts_of messages)
     pub versions : (x : Success) → Mem x applied → IsOfTaken (config_of c) (puts_of messages) x
-    pub reached : CameTo describes fits c (puts_of messages) s
+    pub reached : CameTo describes fits carries c start (puts_of messages) s
     pub noted : noted_in reached.reached.calls (fresh_state (config_of c)) ≡ applied
     pub explained : HasDistinctNames (puts_of messages) → (o p : Outside) → IsOpening o → IsBelow (first_in c.epoch) o → Explains reached.reached.calls o p → IsToldTruly (config_of c) (puts_of messages) applied (map report_of s.reports.items) p
     pub explained_if_stated : HasDistinctNames (puts_of messages) → (o p : Outside) → BeginsBeside (config_of c) o → Explains reached.reached.calls o p → StatesVersions p → IsToldTruly (config_of c) (puts_of messages) applied (map report_of s.reports.items) p
-    pub described : HasDistinctNames (puts_of messages) → IsTrue (describes start) → (o : Outside) → fits start o → IsOpening o → IsBelow (first_in c.epoch) o → CarriesTruly (puts_of messages) reached.reached.calls applied s o
+    pub described : HasDistinctNames (puts_of messages) → IsTrue (describes start) → (o : Outside) → fits start o → IsOpening o → IsBelow (first_in c.epoch) o → LeadsToTruly (puts_of messages) reached.reached.calls applied s o
 
   -- this holds for the lanes from this one on, each with its wire, and with what it told by at the start and at the end
   abbrev pub AllTold : List (List ClosedEnd) → ℕ → List W → List T → List T → List (LaneSummary W) → Type 0

@@ -231,10 +231,11 @@ impl<W: Wire + Drop + Send + 'static, T: Tell + Drop + Send + 'static> Relay<W, 
     /// returned must be closed and passed here: the producers in order, and the control.
     ///
     /// After `Ok` each lane has finished: it took exactly what the handles sent there, and each
-    /// operation was applied or is reported. Over all lanes no operation is reported twice, and one
-    /// assignment of versions is used for all reports. A fault names the first lane of its kind:
-    /// one that ended as Memory, otherwise one that ended as Gone or that a handle has marked;
-    /// otherwise an allocation for the summary failed. What was taken until then was delivered as
+    /// operation was applied or is reported, by answers that the lane's wire returned. Over all
+    /// lanes no operation is reported twice, and one assignment of versions is used for all
+    /// reports. A fault names the first lane of its kind: one that ended as Memory, otherwise one
+    /// that ended as Gone or that a handle has marked; otherwise an allocation for the summary
+    /// failed. What was taken until then was delivered as
     /// [`run_lane`](crate::run_lane) says.
     pub fn finish<R: Threads>(
         self,
@@ -244,15 +245,16 @@ impl<W: Wire + Drop + Send + 'static, T: Tell + Drop + Send + 'static> Relay<W, 
     ) -> Result<Summary<W>, FinishFault>
         requires count { vec_len producers ≡ self.config.producers }
         requires rows { AreRows self.queues 0 (rows_of producers.items control) }
-        ensures finished { IfOk result (λ s. AllFinished W.describes W.fits self.config
+        ensures finished { IfOk result (λ s. AllFinished W.describes W.fits W.carries self.config
             (rows_of producers.items control) 0 self.wires s.lanes.items) }
         ensures delivered { IfOk result (λ s. (puts : ℕ → List Op)
             → HavePut puts 0 producers.items
-            → AllDelivered W.describes W.fits self.config puts 0 self.wires s.lanes.items) }
+            → AllDelivered W.describes W.fits W.carries self.config puts
+            (rows_of producers.items control) 0 self.wires s.lanes.items) }
         ensures together { IfOk result (λ s. (puts : ℕ → List Op)
             → HavePut puts 0 producers.items
             → AreDeliveredTogether W.describes W.fits self.config puts self.wires s.lanes.items) }
-        ensures fault { IfErr result (λ e. HasFault W.describes W.fits self.config
+        ensures fault { IfErr result (λ e. HasFault W.describes W.fits W.carries self.config
             self.queues self.wires (rows_of producers.items control) e) }
     {
         let (summary, _) = self.finish_telling(rt, producers, control)?;
@@ -274,18 +276,19 @@ impl<W: Wire + Drop + Send + 'static, T: Tell + Drop + Send + 'static> Relay<W, 
     ) -> Result<(Summary<W>, Vec<T>), FinishFault>
         requires count { vec_len producers ≡ self.config.producers }
         requires rows { AreRows self.queues 0 (rows_of producers.items control) }
-        ensures finished { IfOk result (λ r. AllFinished W.describes W.fits self.config
+        ensures finished { IfOk result (λ r. AllFinished W.describes W.fits W.carries self.config
             (rows_of producers.items control) 0 self.wires r.0.lanes.items) }
         ensures delivered { IfOk result (λ r. (puts : ℕ → List Op)
             → HavePut puts 0 producers.items
-            → AllDelivered W.describes W.fits self.config puts 0 self.wires r.0.lanes.items) }
+            → AllDelivered W.describes W.fits W.carries self.config puts
+            (rows_of producers.items control) 0 self.wires r.0.lanes.items) }
         ensures together { IfOk result (λ r. (puts : ℕ → List Op)
             → HavePut puts 0 producers.items
             → AreDeliveredTogether W.describes W.fits self.config puts self.wires r.0.lanes.items) }
-        ensures told { IfOk result (λ r. AllTold W.describes W.fits T.told self.config
+        ensures told { IfOk result (λ r. AllTold W.describes W.fits W.carries T.told self.config
             (rows_of producers.items control) 0 self.wires self.tells
             r.1.items r.0.lanes.items) }
-        ensures fault { IfErr result (λ e. HasFault W.describes W.fits self.config
+        ensures fault { IfErr result (λ e. HasFault W.describes W.fits W.carries self.config
             self.queues self.wires (rows_of producers.items control) e) }
     {
         let Relay {

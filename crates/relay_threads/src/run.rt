@@ -33,7 +33,7 @@ fn make_place<W: Wire, P: Pace>(
     ensures closed { lane.new.state.closed ≡ lane.old.state.closed }
     ensures out { W.out wire.new ≡ out_of lane.new.state }
     ensures describes { W.describes wire.new ≡ W.describes wire.old }
-    ensures told { StaysTold (W.describes wire.old) W.fits wire.old wire.new
+    ensures told { StaysTold (W.describes wire.old) W.fits W.carries wire.old wire.new
         lane.old.state lane.new.state }
 {
     if lane.held() < lane.max_held() {
@@ -209,7 +209,7 @@ fn settle_some<W: Wire, P: Pace>(lane: &mut Lane, wire: &mut W, pace: &mut P, me
     requires out { W.out wire.old ≡ out_of lane.old.state }
     ensures out { W.out wire.new ≡ out_of lane.new.state }
     ensures describes { W.describes wire.new ≡ W.describes wire.old }
-    ensures told { StaysTold (W.describes wire.old) W.fits wire.old wire.new
+    ensures told { StaysTold (W.describes wire.old) W.fits W.carries wire.old wire.new
         lane.old.state lane.new.state }
 {
     if awaits_answer(lane, message) {
@@ -222,7 +222,7 @@ fn send_due<W: Wire, P: Pace>(lane: &mut Lane, wire: &mut W, pace: &mut P) -> Re
     requires out { W.out wire.old ≡ out_of lane.old.state }
     ensures out { W.out wire.new ≡ out_of lane.new.state }
     ensures describes { W.describes wire.new ≡ W.describes wire.old }
-    ensures told { StaysTold (W.describes wire.old) W.fits wire.old wire.new
+    ensures told { StaysTold (W.describes wire.old) W.fits W.carries wire.old wire.new
         lane.old.state lane.new.state }
 {
     pass(lane, pace);
@@ -242,7 +242,7 @@ fn go_on<W: Wire, P: Pace>(
     requires out { W.out wire.old ≡ out_of lane.old.state }
     ensures out { W.out wire.new ≡ out_of lane.new.state }
     ensures describes { W.describes wire.new ≡ W.describes wire.old }
-    ensures told { StaysTold (W.describes wire.old) W.fits wire.old wire.new
+    ensures told { StaysTold (W.describes wire.old) W.fits W.carries wire.old wire.new
         lane.old.state lane.new.state }
 {
     if matches!(message, Message::Other) && lane.is_gathering() {
@@ -305,7 +305,7 @@ fn go_on_and_tell<R: Wait, W: Wire, P: Pace, T: Tell>(
     requires out { W.out wire.old ≡ out_of lane.old.state }
     ensures out { W.out wire.new ≡ out_of lane.new.state }
     ensures describes { W.describes wire.new ≡ W.describes wire.old }
-    ensures told { (heard : List Mail) → GoesOnTelling (W.describes wire.old) W.fits
+    ensures told { (heard : List Mail) → GoesOnTelling (W.describes wire.old) W.fits W.carries
         wire.old wire.new (T.told tell.old) (T.told tell.new) told.old told.new
         lane.old.state lane.new.state heard heard }
 {
@@ -333,7 +333,7 @@ fn drain_turn<R: Wait, W: Wire, P: Pace, T: Tell>(
     ensures closed { lane.new.state.closed ≡ lane.old.state.closed }
     ensures out { W.out wire.new ≡ out_of lane.new.state }
     ensures describes { W.describes wire.new ≡ W.describes wire.old }
-    ensures told { (heard : List Mail) → GoesOnTelling (W.describes wire.old) W.fits
+    ensures told { (heard : List Mail) → GoesOnTelling (W.describes wire.old) W.fits W.carries
         wire.old wire.new (T.told tell.old) (T.told tell.new) told.old told.new
         lane.old.state lane.new.state heard heard }
 {
@@ -359,7 +359,7 @@ fn drain_turns<R: Wait, W: Wire, P: Pace, T: Tell>(
     ensures closed { lane.new.state.closed ≡ lane.old.state.closed }
     ensures out { W.out wire.new ≡ out_of lane.new.state }
     ensures describes { W.describes wire.new ≡ W.describes wire.old }
-    ensures told { (heard : List Mail) → GoesOnTelling (W.describes wire.old) W.fits
+    ensures told { (heard : List Mail) → GoesOnTelling (W.describes wire.old) W.fits W.carries
         wire.old wire.new (T.told tell.old) (T.told tell.new) told.old told.new
         lane.old.state lane.new.state heard heard }
 {
@@ -386,7 +386,7 @@ fn drain_all<R: Wait, W: Wire, P: Pace, T: Tell>(
     ensures closed { lane.new.state.closed ≡ lane.old.state.closed }
     ensures out { W.out wire.new ≡ out_of lane.new.state }
     ensures describes { W.describes wire.new ≡ W.describes wire.old }
-    ensures told { (heard : List Mail) → GoesOnTelling (W.describes wire.old) W.fits
+    ensures told { (heard : List Mail) → GoesOnTelling (W.describes wire.old) W.fits W.carries
         wire.old wire.new (T.told tell.old) (T.told tell.new) told.old told.new
         lane.old.state lane.new.state heard heard }
 {
@@ -437,11 +437,11 @@ fn take_next<R: Wait, W: Wire, P: Pace, T: Tell>(
     ensures same_closed { IfErr result
         (λ kind. kind ≡ LaneEndKind.Gone → lane.new.state.closed ≡ lane.old.state.closed) }
     ensures told { OnOk result
-        (GoesOnTelling (W.describes wire.old) W.fits wire.old wire.new
+        (GoesOnTelling (W.describes wire.old) W.fits W.carries wire.old wire.new
         (T.told tell.old) (T.told tell.new) told.old told.new
         lane.old.state lane.new.state take.old.taken take.new.taken) }
     ensures stopped { IfErr result (λ kind. (heard : List Mail) × HasHeard kind take.new.taken heard
-        × GoesOnTelling (W.describes wire.old) W.fits wire.old wire.new
+        × GoesOnTelling (W.describes wire.old) W.fits W.carries wire.old wire.new
         (T.told tell.old) (T.told tell.new) told.old told.new
         lane.old.state lane.new.state take.old.taken heard) }
 {
@@ -478,10 +478,10 @@ fn take_all<R: Wait, W: Wire, P: Pace, T: Tell>(
     ensures not_closed { IfErr result
         (λ kind. kind ≡ LaneEndKind.Gone → all_closed lane.new.state ≡ false) }
     ensures told { OnOk result
-        (HasTold (W.describes wire.old) W.fits wire.old wire.new lane.old.state.config
+        (HasTold (W.describes wire.old) W.fits W.carries wire.old wire.new lane.old.state.config
         (T.told tell.old) (T.told tell.new) told.new lane.new.state take.new.taken) }
     ensures stopped { IfErr result (λ kind. (heard : List Mail) × HasHeard kind take.new.taken heard
-        × HasTold (W.describes wire.old) W.fits wire.old wire.new lane.old.state.config
+        × HasTold (W.describes wire.old) W.fits W.carries wire.old wire.new lane.old.state.config
         (T.told tell.old) (T.told tell.new) told.new lane.new.state heard) }
 {
     let mut more = false;
@@ -512,10 +512,10 @@ fn work<R: Wait, W: Wire, P: Pace, T: Tell>(
     ensures same { (take.new.queue ≡ take.old.queue) × (take.new.senders ≡ take.old.senders) }
     ensures out { W.out wire.new ≡ out_of lane.new.state }
     ensures describes { W.describes wire.new ≡ W.describes wire.old }
-    ensures ends { EndsAs (W.describes wire.old) W.fits wire.old wire.new lane.old.state.config
+    ensures ends { EndsAs (W.describes wire.old) W.fits W.carries wire.old wire.new lane.old.state.config
         take.new.taken result lane.new.state }
     ensures told { (heard : List Mail) × HasHeard result take.new.taken heard
-        × HasTold (W.describes wire.old) W.fits wire.old wire.new lane.old.state.config
+        × HasTold (W.describes wire.old) W.fits W.carries wire.old wire.new lane.old.state.config
         (T.told tell.old) (T.told tell.new) told.new lane.new.state heard }
 {
     match take_all(rt, take, lane, wire, pace, tell, told) {
@@ -556,7 +556,9 @@ fn kind_after(kind: LaneEndKind, told: Result<(), AllocError>) -> LaneEndKind
 /// It ends as Memory if the allocation for an operation that it took, for a request or for telling
 /// of a report failed, and as Gone if the queue says that all senders are dropped but not all had closed; [`LaneEnd`] says
 /// what holds then. In each case delivery of what the lane heard from its queue is sound for each
-/// outside that the wire describes, and complete if it ends as Finished.
+/// outside that the wire describes, and complete if it ends as Finished; and whatever the wire
+/// describes, the lane's calls are what passed over it, so it settled no answer but those that the
+/// wire returned.
 pub fn run_lane<R: Wait, W: Wire, P: Pace + Drop, T: Tell>(
     rt: &R,
     take: LaneTake,
@@ -573,11 +575,11 @@ pub fn run_lane<R: Wait, W: Wire, P: Pace + Drop, T: Tell>(
     ensures senders { result.taken.senders ≡ take.senders }
     ensures well_taken { IsWellTaken result.taken.senders result.taken.taken }
     ensures out { W.out result.wire ≡ [] }
-    ensures ends { EndsAs (W.describes wire) W.fits wire result.wire lane.state.config
+    ensures ends { EndsAs (W.describes wire) W.fits W.carries wire result.wire lane.state.config
         result.taken.taken result.kind result.lane.state }
     ensures closed { result.kind ≡ LaneEndKind.Finished
         → (sender : ℕ) → sender < take.senders → HasDone (mail_of sender result.taken.taken) }
-    ensures told { EndsTold (W.describes wire) W.fits wire result.wire
+    ensures told { EndsTold (W.describes wire) W.fits W.carries wire result.wire
         (T.told tell.old) (T.told tell.new) lane.state.config
         result.taken.taken result.kind result.lane.state }
 {

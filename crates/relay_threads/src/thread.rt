@@ -30,9 +30,9 @@ pub struct LanePromise<W, T> {
 }
 
 impl<W: Wire, T: Tell> Promise<(LaneEnd<W>, T)> for LanePromise<W, T> {
-    ghost kept_by = { λ p r. KeepsCourse W.describes W.fits
+    ghost kept_by = { λ p r. KeepsCourse W.describes W.fits W.carries
         p.config.value p.take.value p.wire.value r.0
-        × KeepsTold W.describes W.fits T.told
+        × KeepsTold W.describes W.fits W.carries T.told
         p.config.value p.wire.value p.tell.value r.1 r.0 };
 }
 
@@ -90,8 +90,8 @@ where
     requires none { (places.items ≡ []) × (tell_places.items ≡ []) }
     requires places { (vec_len lanes ≤ vec_capacity places)
         × (vec_len lanes ≤ vec_capacity tell_places) }
-    ensures ends { EndAsPromised W.describes W.fits lanes.items result.0.items }
-    ensures told { ToldAsPromised W.describes W.fits T.told
+    ensures ends { EndAsPromised W.describes W.fits W.carries lanes.items result.0.items }
+    ensures told { ToldAsPromised W.describes W.fits W.carries T.told
         lanes.items result.0.items result.1.items }
 {
     let mut ends = places;

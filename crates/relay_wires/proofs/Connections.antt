@@ -1,16 +1,17 @@
 -- Connections that may carry further messages.
 use Rattle.std.proofs.Common.{◌≡◌, ℕ, List, [], ◌∷◌, ◌++◌, append_assoc, length-append, ◌<◌, ◌≤◌, ◌+◌, arith, Some, Bool, true, false, Result, Ok, Err, IsTrue, refl, subst, sym, ap, ◌∙◌, inl, inr}
 use Rattle.std.proofs.lemmas.Bool.Decides.{eqb_tells}
-use Rattle.std.specs.Prelude.{if◌then◌else◌, ◌==◌, ◌&&◌, length, MatchResult, IsErrAnd}
+use Rattle.std.specs.Prelude.{if◌then◌else◌, ◌==◌, ◌&&◌, length, Option, Some, None, MatchResult, IsErrAnd}
 use Rattle.relay_action.specs.Streams.{one_more}
 use Rattle.relay_action.specs.declared.write.Write.{Write}
 use Rattle.relay_http.specs.Connection.{Connection, is_open, phase_of, after_reply, after_write}
 use Rattle.relay_http.specs.declared.fault.HttpFault.{HttpFault}
 use Rattle.relay_http.specs.declared.reply.HttpReply.{HttpReply}
+use Rattle.relay_lane.specs.Exchanges as passed
 use Rattle.relay_results.specs.declared.cause.Loss.{Loss}
 use Rattle.relay_results.specs.declared.cause.Loss.TheVariants as loss
 use Rattle.relay_wires.specs.Numbers.{entry_of, besides}
-use Rattle.relay_wires.specs.Carriers.{Carrier, AllFree, IsFree, AllOutFree, Picks, DialsNone, PicksOne, IsToldWritten, Sends, WritesOn, out_after}
+use Rattle.relay_wires.specs.Carriers.{Carrier, AllFree, IsFree, AllOutFree, Picks, DialsNone, PicksOne, IsToldWritten, Sends, WritesOn, out_after, Carried}
 
 pub free_push : (cs : List Connection) (c : Connection) → AllFree cs → IsFree c → AllFree (cs ++ c ∷ [])
 free_push [] c all last = (last, tt)
@@ -126,6 +127,12 @@ few_left most before after out free later c (inl t) few =
 few_left most before after out free later c (inr p) few =
     let n = ap length p.0 in
     omega (arith, n, few)
+
+-- what was sent, as what passed over the wire
+pub carried_sent : {P : Type 0} (describes : P → Bool) (does : P → P → ℕ → Option (List ℕ) → Option (Option (List ℕ)) → Type 0) (number : ℕ) (ws : List Write) (old new : Carrier P) (r : Result (Unit {0}) Loss) → Sends number ws old new r
+    → MatchResult r (λ _. Carried describes does old (passed.Sends number ws None) new) (λ why. Carried describes does old (passed.Sends number ws (Some why)) new)
+carried_sent describes does number ws old new (Ok u) x = x
+carried_sent describes does number ws old new (Err why) x = x
 
 -- ---- free connections that are looked at, the one freed last first
 

@@ -11,6 +11,9 @@ use Rattle.relay_http.specs.declared.dial.DialFault.TheVariants as dial
 use Rattle.relay_http.specs.declared.fault.HttpFault.{HttpFault}
 use Rattle.relay_http.specs.declared.fault.HttpFault.TheVariants as http
 use Rattle.relay_http.specs.declared.reply.HttpReply.{HttpReply}
+use Rattle.relay_lane.specs.Exchanges.{Exchange, Receives}
+use Rattle.relay_lane.specs.Exchanges as passed
+use Rattle.relay_lane.specs.Wires.{answer_of}
 use Rattle.relay_lane.specs.declared.wire.WireReply.{WireReply}
 use Rattle.relay_results.specs.declared.cause.Loss.{Loss}
 use Rattle.relay_results.specs.declared.cause.Loss.TheVariants as loss
@@ -203,6 +206,19 @@ pub record BringsNone {P : Type 0} (describes : P → Bool) (does : P → P → 
 -- Receiving the reply to the request with a number.
 abbrev pub Brings : {P : Type 0} → (P → Bool) → (P → P → ℕ → Option (List ℕ) → Option (Option (List ℕ)) → Type 0) → ℕ → Carrier P → Carrier P → Result WireReply Loss → Type 0
 Brings describes does number old new result = BringsOn describes does number old new result ⊎ BringsNone describes does number old new result
+
+-- ---- what passes over it
+
+-- the result of sending: an error, if the request could not be sent
+abbrev pub sent_as : Option Loss → Result (Unit {0}) Loss
+sent_as None = Ok tt
+sent_as (Some why) = Err why
+
+-- One exchange over the wire: a request that it is given is written, or is not, as `Sends` says, and an answer is what it
+-- returned for the reply that it read, as `Brings` says.
+abbrev pub Carried : {P : Type 0} → (P → Bool) → (P → P → ℕ → Option (List ℕ) → Option (Option (List ℕ)) → Type 0) → Carrier P → Exchange → Carrier P → Type 0
+Carried describes does old (passed.Sends number ws fault) new = Sends number ws old new (sent_as fault)
+Carried describes does old (Receives number answer) new = (result : Result WireReply Loss) × (answer ≡ answer_of result) × Brings describes does number old new result
 
 -- ---- the results of private steps
 

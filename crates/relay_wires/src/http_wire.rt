@@ -106,7 +106,7 @@ impl<S: ByteStream + Drop, D: Dial<S> + Drop, P: Peer<S> + Drop> HttpWire<S, D, 
 
 impl<S: ByteIn + ByteOut + Peek + Drop, D: Dial<S> + Drop, P: Peer<S> + Drop> Wire
     for HttpWire<S, D, P> {
-    ghost use Rattle.std.specs.Prelude.{◌∷◌, ◌≤◌, length, MatchResult};
+    ghost use Rattle.std.specs.Prelude.{◌∷◌, ◌≤◌, length, Some, None, MatchResult};
     ghost use Rattle.relay_ndjson.specs.Bodies.{AreDealt};
     ghost use Rattle.relay_ndjson.specs.Bulk.{text_of};
     ghost use Rattle.relay_results.specs.Outside.{Lost};
@@ -114,13 +114,17 @@ impl<S: ByteIn + ByteOut + Peek + Drop, D: Dial<S> + Drop, P: Peer<S> + Drop> Wi
     ghost use Rattle.relay_lane.specs.Wires.{answer_of, IsWireReply, SendsOn, AnswersOn};
     ghost use Rattle.relay_lane.specs.Wires.{ExchangesOn, Shows, ShowsNext, without};
     ghost use Rattle.relay_wires.specs.Numbers.{numbers};
-    ghost use Rattle.relay_wires.specs.Carriers.{Sends, Brings};
+    ghost use Rattle.relay_lane.specs.Exchanges.{Receives};
+    ghost use Rattle.relay_lane.specs.Exchanges as passed;
+    ghost use Rattle.relay_wires.specs.Carriers.{Sends, Brings, Carried};
 
     ghost out = { λ w. numbers w.out };
 
     ghost describes = { λ w. P.describes w.peer };
 
     ghost fits = { λ w o. Fits P.fits w o };
+
+    ghost carries = { λ v x w. Carried P.describes P.does v x w };
 
     /// Writes a request on a free connection on which nothing has arrived since it was freed, or on
     /// one that is dialled. `Refused`, `TimedOut`, `Unreachable`: the dial failed, or the maximum
@@ -145,6 +149,11 @@ impl<S: ByteIn + ByteOut + Peek + Drop, D: Dial<S> + Drop, P: Peer<S> + Drop> Wi
         // writing it maps to; if no connection was picked, it is that of the dial, or Memory if the window of
         // a fresh one could not be allocated.
         ensures sends { Sends number writes.now self.old self.new result }
+        ensures carries { MatchResult result
+            (λ _. Carried P.describes P.does self.old
+            (passed.Sends number writes.now None) self.new)
+            (λ why. Carried P.describes P.does self.old
+            (passed.Sends number writes.now (Some why)) self.new) }
     {
         if self.out.len() >= self.most as usize {
             return Err(Loss::Unreachable);
@@ -169,6 +178,8 @@ impl<S: ByteIn + ByteOut + Peek + Drop, D: Dial<S> + Drop, P: Peer<S> + Drop> Wi
             (AnswersOn number (answer_of result)) }
         // What is returned follows from the reply that was read there, by the table of statuses.
         ensures brings { Brings P.describes P.does number self.old self.new result }
+        ensures carries { Carried P.describes P.does self.old
+            (Receives number (answer_of result)) self.new }
     {
         let Some(conn) = take(&mut self.out, number) else {
             unreachable!();

@@ -15,7 +15,7 @@ answers-init g c =
       few = omega (arith, few);
       requests = refl;
       left = omega arith;
-      worked = worked_on_none (g.W.Wire.describes c.args.wire.now) g.W.Wire.fits collects c.args.wire.now s;
+      worked = worked_on_none (g.W.Wire.describes c.args.wire.now) g.W.Wire.fits g.W.Wire.carries collects c.args.wire.now s;
       passed = passed_none s (g.P.Pace.paused c.args.pace.now) c.totals.ensures.lane;
       out = c.requires.out;
       describes = refl;
@@ -25,7 +25,7 @@ pub answers-smaller : goal.answers-smaller
 answers-smaller g c =
     let x = c.settle_oldest.ensures.turn in
     let some : 0 < length c.answers.lane.state.core.flying = (let a = c.answers-test.true in let b = c.flying.ensures in omega (arith, a, b)) in
-    let one = settled_one (g.W.Wire.describes c.answers.wire) g.W.Wire.fits c.answers.wire c.settle_oldest.new.wire c.answers.lane.state c.settle_oldest.new.lane.state x some in
+    let one = settled_one (g.W.Wire.describes c.answers.wire) g.W.Wire.fits g.W.Wire.carries c.answers.wire c.settle_oldest.new.wire c.answers.lane.state c.settle_oldest.new.lane.state x some in
     omega (arith, one)
 
 pub answers-preserved : goal.answers-preserved
@@ -36,15 +36,15 @@ answers-preserved g c =
     let t = c.settle_oldest.new.lane.state in
     let x = c.settle_oldest.ensures.turn in
     let some : 0 < length s.core.flying = (let a = c.answers-test.true in let b = c.flying.ensures in omega (arith, a, b)) in
-    let one = settled_one (g.W.Wire.describes c.answers.wire) g.W.Wire.fits c.answers.wire c.settle_oldest.new.wire s t x some in
-    let k = settles_turned (g.W.Wire.describes c.answers.wire) g.W.Wire.fits c.answers.wire c.settle_oldest.new.wire s t x some in
+    let one = settled_one (g.W.Wire.describes c.answers.wire) g.W.Wire.fits g.W.Wire.carries c.answers.wire c.settle_oldest.new.wire s t x some in
+    let k = settles_turned (g.W.Wire.describes c.answers.wire) g.W.Wire.fits g.W.Wire.carries c.answers.wire c.settle_oldest.new.wire s t x some in
     record {
       stays = stays_on s0 s t i.stays k.keeps.stays;
       settled = (let a = i.settled in omega (arith, a, one));
       few = i.few;
       requests = (let a = i.requests in let b = k.keeps.requests in omega (arith, a, b));
       left = (let a = i.left in let b = k.left in omega (arith, a, b));
-      worked = worked_on_more (g.W.Wire.describes c.args.wire.now) g.W.Wire.fits collects (Settles x.ticks x.answer) (g.W.Wire.describes c.answers.wire) c.args.wire.now c.answers.wire c.settle_oldest.new.wire s0 s t i.describes i.worked refl k.may k.reached x.delivers;
+      worked = worked_on_more (g.W.Wire.describes c.args.wire.now) g.W.Wire.fits g.W.Wire.carries collects (Settles x.ticks x.answer) (g.W.Wire.describes c.answers.wire) c.args.wire.now c.answers.wire c.settle_oldest.new.wire s0 s t i.describes i.worked refl k.may k.reached x.delivers;
       passed = passed_on s0.core.clock s.core.clock t.core.clock (g.P.Pace.paused c.args.pace.now) (g.P.Pace.paused c.answers.pace) (g.P.Pace.paused c.settle_oldest.new.pace) i.passed c.settle_oldest.ensures.passed;
       out = c.settle_oldest.ensures.out;
       describes = c.settle_oldest.ensures.describes ∙ i.describes;

@@ -11,7 +11,7 @@ invariant-answers g l = record {
   few : length l.fn.lane.state.core.flying ≤ 4294967295;
   requests : l.lane.state.core.requests ≡ l.fn.lane.state.core.requests;
   left : sends_left l.lane.state ≤ sends_left l.fn.lane.state;
-  worked : WorkedOn (g.W.Wire.describes l.fn.wire) g.W.Wire.fits collects l.fn.wire l.wire l.fn.lane.state l.lane.state;
+  worked : WorkedOn (g.W.Wire.describes l.fn.wire) g.W.Wire.fits g.W.Wire.carries collects l.fn.wire l.wire l.fn.lane.state l.lane.state;
   passed : Passed l.fn.lane.state.core.clock l.lane.state.core.clock (g.P.Pace.paused l.fn.pace) (g.P.Pace.paused l.pace);
   out : g.W.Wire.out l.wire ≡ out_of l.lane.state;
   describes : g.W.Wire.describes l.wire ≡ g.W.Wire.describes l.fn.wire;

@@ -13,7 +13,7 @@ pub returns-clause-done : goal.returns-clause-done
 returns-clause-done g c = none_held c.work.result c.work.new.lane.state.core.held c.work.ensures.done
 
 pub returns-clause-worked : goal.returns-clause-worked
-returns-clause-worked g c = worked_some (g.W.Wire.describes c.args.wire.now) g.W.Wire.fits c.args.wire.now c.work.new.wire c.args.lane.now.state c.work.new.lane.state c.work.ensures.worked
+returns-clause-worked g c = worked_some (g.W.Wire.describes c.args.wire.now) g.W.Wire.fits g.W.Wire.carries c.args.wire.now c.work.new.wire c.args.lane.now.state c.work.new.lane.state c.work.ensures.worked
 
 pub returns-clause-most : goal.returns-clause-most
 returns-clause-most g c = most_sent c.args.lane.now.state c.work.new.lane.state c.totals.ensures.lane c.work.ensures.bound

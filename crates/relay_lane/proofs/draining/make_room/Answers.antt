@@ -28,5 +28,5 @@ returns-clause-worked g c =
     let d = g.W.Wire.describes c.args.wire.now in
     let v = c.args.wire.now in
     let w = c.work.new.wire in
-    worked_full d g.W.Wire.fits v w c.max_held-most.result (after_flush c.args.lane.now.state) c.work.new.lane.state c.max_held-most.ensures
-    (subst (λ s. WorkedOn d g.W.Wire.fits (holds c.max_held-most.result) v w s c.work.new.lane.state) c.flush.ensures.flushed c.work.ensures.worked)
+    worked_full d g.W.Wire.fits g.W.Wire.carries v w c.max_held-most.result (after_flush c.args.lane.now.state) c.work.new.lane.state c.max_held-most.ensures
+    (subst (λ s. WorkedOn d g.W.Wire.fits g.W.Wire.carries (holds c.max_held-most.result) v w s c.work.new.lane.state) c.flush.ensures.flushed c.work.ensures.worked)

@@ -10,7 +10,7 @@ invariant-turns g l = record {
   sent : l.lane.state.core.requests ≡ l.fn.lane.state.core.requests + l.count;
   left : l.count + sends_left l.lane.state ≤ sends_left l.fn.lane.state;
   few : sends_left l.fn.lane.state ≤ 18446744073709551615;
-  worked : WorkedOn (g.W.Wire.describes l.fn.wire) g.W.Wire.fits sends_only l.fn.wire l.wire l.fn.lane.state l.lane.state;
+  worked : WorkedOn (g.W.Wire.describes l.fn.wire) g.W.Wire.fits g.W.Wire.carries sends_only l.fn.wire l.wire l.fn.lane.state l.lane.state;
   passed : Passed l.fn.lane.state.core.clock l.lane.state.core.clock (g.P.Pace.paused l.fn.pace) (g.P.Pace.paused l.pace);
   out : g.W.Wire.out l.wire ≡ out_of l.lane.state;
   describes : g.W.Wire.describes l.wire ≡ g.W.Wire.describes l.fn.wire;

@@ -13,7 +13,7 @@ turns-init g c =
     record {
       stays = stays_itself s;
       pressed = c.requires.pressed;
-      worked = worked_on_none (g.W.Wire.describes c.args.wire.now) g.W.Wire.fits (holds c.args.least) c.args.wire.now s;
+      worked = worked_on_none (g.W.Wire.describes c.args.wire.now) g.W.Wire.fits g.W.Wire.carries (holds c.args.least) c.args.wire.now s;
       left = omega arith;
       passed = passed_none s (g.P.Pace.paused c.args.pace.now) c.totals.ensures.lane;
       out = c.requires.out;
@@ -28,6 +28,7 @@ turns-preserved g c =
     let i = c.turns.invariant in
     let d = g.W.Wire.describes in
     let fits = g.W.Wire.fits in
+    let carries = g.W.Wire.carries in
     let u = c.args.wire.now in
     let v = c.turns.wire in
     let w = c.take_turn.new.wire in
@@ -39,7 +40,7 @@ turns-preserved g c =
     record {
       stays = stays_on s0 s t i.stays k.stays;
       pressed = k.pressed;
-      worked = worked_on_more (d u) fits (holds c.args.least) k.took.turn (d v) u v w s0 s t i.describes i.worked going k.took.may k.took.reached k.took.delivers;
+      worked = worked_on_more (d u) fits carries (holds c.args.least) k.took.turn (d v) u v w s0 s t i.describes i.worked going k.took.may k.took.reached k.took.delivers;
       left = (let a = i.left in let b = k.bound in omega (arith, a, b));
       passed = passed_on s0.core.clock s.core.clock t.core.clock (g.P.Pace.paused c.args.pace.now) (g.P.Pace.paused c.turns.pace) (g.P.Pace.paused c.take_turn.new.pace) i.passed c.take_turn.ensures.passed;
       out = c.take_turn.ensures.out;
@@ -53,7 +54,7 @@ pub returns-in_err-take_turn-clause-worked : goal.returns-in_err-take_turn-claus
 returns-in_err-take_turn-clause-worked g c =
     let d = g.W.Wire.describes in
     let i = c.turns.invariant in
-    worked_on_still (d c.args.wire.now) g.W.Wire.fits (holds c.args.least) (d c.turns.wire) c.args.wire.now c.turns.wire c.take_turn.new.wire c.args.lane.now.state c.turns.lane.state c.take_turn.new.lane.state
+    worked_on_still (d c.args.wire.now) g.W.Wire.fits g.W.Wire.carries (holds c.args.least) (d c.turns.wire) c.args.wire.now c.turns.wire c.take_turn.new.wire c.args.lane.now.state c.turns.lane.state c.take_turn.new.lane.state
     i.describes i.worked c.in_err-take_turn.ensures.unchanged c.in_err-take_turn.ensures.delivers
 
 pub returns-in_err-take_turn-clause-passed : goal.returns-in_err-take_turn-clause-passed

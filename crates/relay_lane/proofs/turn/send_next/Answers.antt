@@ -1,4 +1,4 @@
-use Rattle.std.proofs.Common.{◌≡◌, ◌≤◌, [], ◌∷◌, List, Some, true, sym, refl, ap, ◌∙◌, subst, length}
+use Rattle.std.proofs.Common.{◌≡◌, ◌≤◌, [], ◌∷◌, List, Some, None, true, sym, refl, ap, ◌∙◌, subst, length}
 use Rattle.relay_ndjson.specs.Bodies.{AreDealt}
 use Rattle.relay_ndjson.specs.Bulk.{text_of}
 use Rattle.relay_results.specs.Words.{Mem}
@@ -10,6 +10,7 @@ use Rattle.relay_results.specs.declared.cause.Loss.{Loss}
 use Rattle.relay_lane.specs.Delivers.{Delivers}
 use Rattle.relay_lane.specs.Out.{out_of}
 use Rattle.relay_lane.specs.Wires.{SendsOn, ExchangesOn, ShowsNext}
+use Rattle.relay_lane.specs.Exchanges.{Sends}
 use Rattle.relay_lane.specs.Turns.{after_send, after_ticks, after_fail, Passed}
 use Rattle.relay_lane.specs.Turns as turns
 use Rattle.relay_lane.specs.Calls.{called_by}
@@ -17,18 +18,18 @@ use Rattle.relay_lane.proofs.Stepping.{passed_none, passed_same}
 use Rattle.relay_lane.proofs.Limits.{requests_fit}
 use Rattle.relay_lane.proofs.Out.{request_flies, request_writes, out_sent, out_failed, next_is_new}
 use Rattle.relay_lane.proofs.Sending.{same_none, some_items, at_some, on_err}
-use Rattle.relay_lane.proofs.Carrying.{delivers_itself, delivers_send, delivers_fail}
+use Rattle.relay_lane.proofs.Passing.{delivers_itself, delivers_send, delivers_fail}
 use Rattle.relay_lane.proofs.turn.send_next.Goals as goal
 
 pub returns-in_err-number-clause-delivers : goal.returns-in_err-number-clause-delivers
 returns-in_err-number-clause-delivers g c =
-    on_err c.from_residual.result (Delivers (g.W.Wire.describes c.args.wire.now) g.W.Wire.fits c.args.wire.now c.args.wire.now c.args.lane.now.state c.request.new.self.state [])
-    (delivers_itself (g.W.Wire.describes c.args.wire.now) g.W.Wire.fits c.args.wire.now c.args.wire.now c.args.lane.now.state c.request.new.self.state refl c.in_err-number.ensures.unchanged)
+    on_err c.from_residual.result (Delivers (g.W.Wire.describes c.args.wire.now) g.W.Wire.fits g.W.Wire.carries c.args.wire.now c.args.wire.now c.args.lane.now.state c.request.new.self.state [])
+    (delivers_itself (g.W.Wire.describes c.args.wire.now) g.W.Wire.fits g.W.Wire.carries c.args.wire.now c.args.wire.now c.args.lane.now.state c.request.new.self.state refl c.in_err-number.ensures.unchanged)
 
 pub returns-in_default-clause-turn : goal.returns-in_default-clause-turn
 returns-in_default-clause-turn g c =
     let same = same_none c.args.lane.now.state c.request.new.self.state c.in_ok-number.field-0 c.in_default.is c.in_ok-number.ensures.when c.in_ok-number.ensures.after in
-    (same, delivers_itself (g.W.Wire.describes c.args.wire.now) g.W.Wire.fits c.args.wire.now c.args.wire.now c.args.lane.now.state c.request.new.self.state refl same)
+    (same, delivers_itself (g.W.Wire.describes c.args.wire.now) g.W.Wire.fits g.W.Wire.carries c.args.wire.now c.args.wire.now c.args.lane.now.state c.request.new.self.state refl same)
 
 -- the lane after its request, and after ticks
 ticked_is : (s t u : State) (n : _) → t ≡ after_send s → u ≡ after_ticks n t → u ≡ after_ticks n (after_send s)
@@ -131,8 +132,9 @@ returns-in-Ok-clause-turn g c =
       turns.Sends n,
       refl,
       after,
-      subst (λ t. Delivers d g.W.Wire.fits v w s t (called_by (turns.Sends n) s)) (sym after)
-          (delivers_send d g.W.Wire.fits v w s c.totals.ensures.lane items.0 items.1 ws same n (subst (λ n. ShowsNext d g.W.Wire.fits v w n (SendsOn ws)) number c.in-Ok.ensures.outside)),
+      subst (λ t. Delivers d g.W.Wire.fits g.W.Wire.carries v w s t (called_by (turns.Sends n) s)) (sym after)
+          (delivers_send d g.W.Wire.fits g.W.Wire.carries v w s c.totals.ensures.lane items.0 items.1 ws same n (subst (λ n. ShowsNext d g.W.Wire.fits v w n (SendsOn ws)) number c.in-Ok.ensures.outside)
+          (subst (λ n. g.W.Wire.carries v (Sends n ws None) w) number c.in-Ok.ensures.carries)),
     )
 
 -- a request that could not be sent is settled as lost
@@ -170,6 +172,7 @@ returns-in-Err-clause-turn g c =
       turns.Fails c.in-Err.fault k,
       refl,
       fails,
-      subst (λ t. Delivers d g.W.Wire.fits v w s t (called_by (turns.Fails c.in-Err.fault k) s)) (sym fails)
-          (delivers_fail d g.W.Wire.fits v w s c.totals.ensures.lane items.0 items.1 ws same c.in-Err.fault k (subst (λ n. ShowsNext d g.W.Wire.fits v w n (ExchangesOn n ws (Lost c.in-Err.fault))) number c.in-Err.ensures.outside)),
+      subst (λ t. Delivers d g.W.Wire.fits g.W.Wire.carries v w s t (called_by (turns.Fails c.in-Err.fault k) s)) (sym fails)
+          (delivers_fail d g.W.Wire.fits g.W.Wire.carries v w s c.totals.ensures.lane items.0 items.1 ws same c.in-Err.fault k (subst (λ n. ShowsNext d g.W.Wire.fits v w n (ExchangesOn n ws (Lost c.in-Err.fault))) number c.in-Err.ensures.outside)
+          (subst (λ n. g.W.Wire.carries v (Sends n ws (Some c.in-Err.fault)) w) number c.in-Err.ensures.carries)),
     )

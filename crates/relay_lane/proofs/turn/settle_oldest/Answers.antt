@@ -9,7 +9,7 @@ use Rattle.relay_lane.specs.Wires.{answer_of, without}
 use Rattle.relay_lane.proofs.Out.{oldest_is, oldest_number, oldest_flies, oldest_out, out_answered}
 use Rattle.relay_lane.proofs.Sending.{answers}
 use Rattle.relay_lane.proofs.Stepping.{passed_same}
-use Rattle.relay_lane.proofs.Carrying.{delivers_answer}
+use Rattle.relay_lane.proofs.Passing.{delivers_answer}
 use Rattle.relay_lane.proofs.turn.settle_oldest.Goals as goal
 
 pub receive-answer-requires : goal.receive-answer-requires
@@ -40,9 +40,9 @@ returns-in-Some-clause-turn g c =
       lane = subst IsLane c.pass.ensures.ticked.reached c.totals-in-Some.ensures.lane;
       answers = answers c.receive-answer.result;
       reached = settled ∙ sym (ap (λ k. after_answer_to (after_ticks n s) k a) number);
-      delivers = subst (λ k. Delivers d g.W.Wire.fits v w s c.settle_now.new.lane.state (Ticks (s.core.clock + n) ∷ Answers k a ∷ [])) (sym number)
-          (subst (λ t. Delivers d g.W.Wire.fits v w s t (Ticks (s.core.clock + n) ∷ Answers c.in-Some.number a ∷ [])) (sym settled)
-          (delivers_answer d g.W.Wire.fits v w s n c.in-Some.number a (oldest_flies s c.totals.ensures.lane c.in-Some.number o) c.receive-answer.ensures.outside));
+      delivers = subst (λ k. Delivers d g.W.Wire.fits g.W.Wire.carries v w s c.settle_now.new.lane.state (Ticks (s.core.clock + n) ∷ Answers k a ∷ [])) (sym number)
+          (subst (λ t. Delivers d g.W.Wire.fits g.W.Wire.carries v w s t (Ticks (s.core.clock + n) ∷ Answers c.in-Some.number a ∷ [])) (sym settled)
+          (delivers_answer d g.W.Wire.fits g.W.Wire.carries v w s n c.in-Some.number a (oldest_flies s c.totals.ensures.lane c.in-Some.number o) c.receive-answer.ensures.outside c.receive-answer.ensures.carries));
     }
 
 pub returns-in-Some-clause-passed : goal.returns-in-Some-clause-passed

@@ -8,6 +8,7 @@ use Rattle.relay_run.specs.Readers.{named_ops}
 use Rattle.relay_run.specs.Handles.{Given, AllEndFed}
 use Rattle.relay_run.specs.Saving.{Saver, AllKeep, SayFailed}
 use Rattle.relay_threads.specs.DeliveryOfAll.{AllDelivered}
+use Rattle.relay_threads.specs.Relay.{rows_of}
 use Rattle.relay_threads.specs.Together.{AreDeliveredTogether}
 use Rattle.relay_run.proofs.Handing.{rows_of_all, count_back, control_back}
 use Rattle.relay_run.proofs.Ending.{all_fed, fed_and_put, said_as}
@@ -49,13 +50,15 @@ returns-clause-delivered g c =
     let ended = subst (λ (gs : List (Given _)). AllEndFed left failed gs c.in_ok-closed.closed.items c.in_ok-closed.faults.items) c.in_ok-threads.ensures.given c.in_ok-closed.ensures in
     let all = all_fed left failed (bytes_given c.args.index) queues c.args.config.epoch 0 c.args.readers.items c.in_ok-relay.producers.items c.in_ok-closed.closed.items c.in_ok-closed.faults.items c.in_ok-relay.ensures.producers ended in
     let x = fed_and_put left failed (bytes_given c.args.index) queues c.args.config.epoch c.args.readers.items c.in_ok-relay.producers.items c.in_ok-closed.closed.items c.in_ok-closed.faults.items all in
+    let rows = rows_of c.in_ok-closed.closed.items c.close-control.result in
     let puts : ℕ → List Op = λ p. named_ops c.args.config.epoch p 1 (x.ops p) in
-    let each = said_as (λ k ps ws ls. AllDelivered g.W.Wire.describes g.W.Wire.fits k ps 0 ws ls) c.in_ok-relay.relay.config c.args.config c.in_ok-relay.relay.wires c.args.wires.items puts c.in_ok-closed.closed.items c.finish_telling.result c.in_ok-relay.ensures.config c.in_ok-relay.ensures.wires x.put c.finish_telling.ensures.delivered in
+    let each = said_as (λ k ps ws ls. AllDelivered g.W.Wire.describes g.W.Wire.fits g.W.Wire.carries k ps rows 0 ws ls) c.in_ok-relay.relay.config c.args.config c.in_ok-relay.relay.wires c.args.wires.items puts c.in_ok-closed.closed.items c.finish_telling.result c.in_ok-relay.ensures.config c.in_ok-relay.ensures.wires x.put c.finish_telling.ensures.delivered in
     let together = said_as (AreDeliveredTogether g.W.Wire.describes g.W.Wire.fits) c.in_ok-relay.relay.config c.args.config c.in_ok-relay.relay.wires c.args.wires.items puts c.in_ok-closed.closed.items c.finish_telling.result c.in_ok-relay.ensures.config c.in_ok-relay.ensures.wires x.put c.finish_telling.ensures.together in (
       queues,
       x.ops,
+      rows,
       x.fed,
-      of_end (λ (v : Vec Saver _). v.items) (λ s. AllDelivered g.W.Wire.describes g.W.Wire.fits c.args.config puts 0 c.args.wires.items s.lanes.items)
+      of_end (λ (v : Vec Saver _). v.items) (λ s. AllDelivered g.W.Wire.describes g.W.Wire.fits g.W.Wire.carries c.args.config puts rows 0 c.args.wires.items s.lanes.items)
           c.finish_telling.result c.apart-end.result.0 c.apart-end.result.1.items c.apart-end.ensures.ok c.apart-end.ensures.err each,
       of_end (λ (v : Vec Saver _). v.items) (λ s. AreDeliveredTogether g.W.Wire.describes g.W.Wire.fits c.args.config puts c.args.wires.items s.lanes.items)
           c.finish_telling.result c.apart-end.result.0 c.apart-end.result.1.items c.apart-end.ensures.ok c.apart-end.ensures.err together,
@@ -63,7 +66,7 @@ returns-clause-delivered g c =
 
 pub returns-clause-saved : goal.returns-clause-saved
 returns-clause-saved g c =
-    saves_at_end (λ (v : Vec Saver _). v.items) g.W.Wire.describes g.W.Wire.fits c.in_ok-relay.relay.config _ c.in_ok-relay.relay.wires c.in_ok-relay.relay.tells c.args.tells.items c.finish_telling.result c.apart-end.result.0 c.apart-end.result.1.items c.apart-end.ensures.ok c.apart-end.ensures.err
+    saves_at_end (λ (v : Vec Saver _). v.items) g.W.Wire.describes g.W.Wire.fits g.W.Wire.carries c.in_ok-relay.relay.config _ c.in_ok-relay.relay.wires c.in_ok-relay.relay.tells c.args.tells.items c.finish_telling.result c.apart-end.result.0 c.apart-end.result.1.items c.apart-end.ensures.ok c.apart-end.ensures.err
     c.in_ok-relay.ensures.tells c.requires.new (subst AllKeep c.deref.ensures.value c.have_failed-unsaved.ensures.keep) c.finish_telling.ensures.told
 
 pub returns-clause-unsaved : goal.returns-clause-unsaved

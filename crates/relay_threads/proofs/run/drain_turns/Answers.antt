@@ -19,7 +19,7 @@ turns-preserved g c =
       out = c.drain_turn.ensures.out;
       describes = c.drain_turn.ensures.describes ∙ i.describes;
       told = λ heard.
-          goes_on_telling (d c.args.wire.now) (d c.turns.wire) g.W.Wire.fits c.args.wire.now c.turns.wire c.drain_turn.new.wire (g.T.Tell.told c.args.tell.now) (g.T.Tell.told c.turns.tell) (g.T.Tell.told c.drain_turn.new.tell)
+          goes_on_telling (d c.args.wire.now) (d c.turns.wire) g.W.Wire.fits g.W.Wire.carries c.args.wire.now c.turns.wire c.drain_turn.new.wire (g.T.Tell.told c.args.tell.now) (g.T.Tell.told c.turns.tell) (g.T.Tell.told c.drain_turn.new.tell)
           c.args.told.now c.turns.told c.drain_turn.new.told c.args.lane.now.state c.turns.lane.state c.drain_turn.new.lane.state heard heard heard i.describes (i.told heard) (c.drain_turn.ensures.told heard);
     }
 
@@ -27,12 +27,12 @@ pub returns-then-not-branch-clause-told : goal.returns-then-not-branch-clause-to
 returns-then-not-branch-clause-told g c heard =
     let i = c.turns.invariant in
     let d = g.W.Wire.describes in
-    goes_on_telling (d c.args.wire.now) (d c.turns.wire) g.W.Wire.fits c.args.wire.now c.turns.wire c.drain_turn.new.wire (g.T.Tell.told c.args.tell.now) (g.T.Tell.told c.turns.tell) (g.T.Tell.told c.drain_turn.new.tell)
+    goes_on_telling (d c.args.wire.now) (d c.turns.wire) g.W.Wire.fits g.W.Wire.carries c.args.wire.now c.turns.wire c.drain_turn.new.wire (g.T.Tell.told c.args.tell.now) (g.T.Tell.told c.turns.tell) (g.T.Tell.told c.drain_turn.new.tell)
     c.args.told.now c.turns.told c.drain_turn.new.told c.args.lane.now.state c.turns.lane.state c.drain_turn.new.lane.state heard heard heard i.describes (i.told heard) (c.drain_turn.ensures.told heard)
 
 pub returns-in_err-drain_turn-clause-told : goal.returns-in_err-drain_turn-clause-told
 returns-in_err-drain_turn-clause-told g c heard =
     let i = c.turns.invariant in
     let d = g.W.Wire.describes in
-    goes_on_telling (d c.args.wire.now) (d c.turns.wire) g.W.Wire.fits c.args.wire.now c.turns.wire c.drain_turn.new.wire (g.T.Tell.told c.args.tell.now) (g.T.Tell.told c.turns.tell) (g.T.Tell.told c.drain_turn.new.tell)
+    goes_on_telling (d c.args.wire.now) (d c.turns.wire) g.W.Wire.fits g.W.Wire.carries c.args.wire.now c.turns.wire c.drain_turn.new.wire (g.T.Tell.told c.args.tell.now) (g.T.Tell.told c.turns.tell) (g.T.Tell.told c.drain_turn.new.tell)
     c.args.told.now c.turns.told c.drain_turn.new.told c.args.lane.now.state c.turns.lane.state c.drain_turn.new.lane.state heard heard heard i.describes (i.told heard) (c.drain_turn.ensures.told heard)

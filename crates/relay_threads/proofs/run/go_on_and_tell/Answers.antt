@@ -8,12 +8,13 @@ pub returns-clause-told : goal.returns-clause-told
 returns-clause-told g c heard =
     let d = g.W.Wire.describes in
     let fits = g.W.Wire.fits in
+    let carries = g.W.Wire.carries in
     let u = c.args.wire.now in
     let v = c.go_on.new.wire in
     let t = g.T.Tell.told c.args.tell.now in
     let last = g.T.Tell.told c.tell_all.new.tell in
     let k = c.args.told.now in
     let s = c.go_on.new.lane.state in
-    goes_on_telling (d u) (d v) fits u v v t t last k k c.tell_all.new.told c.args.lane.now.state s c.tell_all.new.lane.state heard heard heard c.go_on.ensures.describes
+    goes_on_telling (d u) (d v) fits carries u v v t t last k k c.tell_all.new.told c.args.lane.now.state s c.tell_all.new.lane.state heard heard heard c.go_on.ensures.describes
     (c.go_on.ensures.told t k heard)
-    (goes_on_by (d v) fits v t last k c.tell_all.new.told s c.tell_all.new.lane.state heard c.tell_all.ensures.state c.tell_all.ensures.told)
+    (goes_on_by (d v) fits carries v t last k c.tell_all.new.told s c.tell_all.new.lane.state heard c.tell_all.ensures.state c.tell_all.ensures.told)

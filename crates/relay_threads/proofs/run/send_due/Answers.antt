@@ -11,18 +11,20 @@ pub returns-in_err-send_ready-clause-told : goal.returns-in_err-send_ready-claus
 returns-in_err-send_ready-clause-told g c =
     let d = g.W.Wire.describes c.args.wire.now in
     let fits = g.W.Wire.fits in
+    let carries = g.W.Wire.carries in
     let v = c.args.wire.now in
     let s = c.args.lane.now.state in
     let t = c.pass.new.lane.state in
-    stays_told d d fits v v c.send_ready.new.wire s t c.send_ready.new.lane.state refl (ticked_told d fits v s t c.pass.ensures.ticked)
-    (works_told d fits sends_only v c.send_ready.new.wire t c.send_ready.new.lane.state c.send_ready.ensures.worked c.send_ready.ensures.stays)
+    stays_told d d fits carries v v c.send_ready.new.wire s t c.send_ready.new.lane.state refl (ticked_told d fits carries v s t c.pass.ensures.ticked)
+    (works_told d fits carries sends_only v c.send_ready.new.wire t c.send_ready.new.lane.state c.send_ready.ensures.worked c.send_ready.ensures.stays)
 
 pub returns-clause-told : goal.returns-clause-told
 returns-clause-told g c =
     let d = g.W.Wire.describes c.args.wire.now in
     let fits = g.W.Wire.fits in
+    let carries = g.W.Wire.carries in
     let v = c.args.wire.now in
     let s = c.args.lane.now.state in
     let t = c.pass.new.lane.state in
-    stays_told d d fits v v c.send_ready.new.wire s t c.send_ready.new.lane.state refl (ticked_told d fits v s t c.pass.ensures.ticked)
-    (works_told d fits sends_only v c.send_ready.new.wire t c.send_ready.new.lane.state c.send_ready.ensures.worked c.send_ready.ensures.stays)
+    stays_told d d fits carries v v c.send_ready.new.wire s t c.send_ready.new.lane.state refl (ticked_told d fits carries v s t c.pass.ensures.ticked)
+    (works_told d fits carries sends_only v c.send_ready.new.wire t c.send_ready.new.lane.state c.send_ready.ensures.worked c.send_ready.ensures.stays)

@@ -9,5 +9,5 @@ invariant-messages g l = record {
   senders : l.take.senders ≡ l.fn.take.senders;
   out : g.W.Wire.out l.wire ≡ out_of l.lane.state;
   describes : g.W.Wire.describes l.wire ≡ g.W.Wire.describes l.fn.wire;
-  told : HasTold (g.W.Wire.describes l.fn.wire) g.W.Wire.fits l.fn.wire l.wire l.fn.lane.state.config (g.T.Tell.told l.fn.tell) (g.T.Tell.told l.tell) l.told l.lane.state l.take.taken;
+  told : HasTold (g.W.Wire.describes l.fn.wire) g.W.Wire.fits g.W.Wire.carries l.fn.wire l.wire l.fn.lane.state.config (g.T.Tell.told l.fn.tell) (g.T.Tell.told l.tell) l.told l.lane.state l.take.taken;
 }

@@ -15,6 +15,7 @@ returns-in_err-message-clause-stopped g c =
     let p = err_from_is_err_and c.from_residual-in_err-message.result c.from_residual-in_err-message.ensures.1 in
     let d = g.W.Wire.describes in
     let fits = g.W.Wire.fits in
+    let carries = g.W.Wire.carries in
     let a = c.args.take.now.taken in
     let u = c.args.wire.now in
     let v = c.make_place.new.wire in
@@ -25,13 +26,14 @@ returns-in_err-message-clause-stopped g c =
     rw (p.1, p.2) (
       a,
       c.in_err-message.ensures.heard,
-      goes_on_telling (d u) (d v) fits u v v x x x k k k c.args.lane.now.state s t a a a c.make_place.ensures.describes (c.make_place.ensures.told x k a) (as_told (d v) fits v s t c.in_err-message.ensures.unchanged x k a),
+      goes_on_telling (d u) (d v) fits carries u v v x x x k k k c.args.lane.now.state s t a a a c.make_place.ensures.describes (c.make_place.ensures.told x k a) (as_told (d v) fits carries v s t c.in_err-message.ensures.unchanged x k a),
     )
 
 pub returns-clause-told : goal.returns-clause-told
 returns-clause-told g c =
     let d = g.W.Wire.describes in
     let fits = g.W.Wire.fits in
+    let carries = g.W.Wire.carries in
     let u = c.args.wire.now in
     let v = c.make_place.new.wire in
     let w = c.go_on_and_tell.new.wire in
@@ -42,8 +44,8 @@ returns-clause-told g c =
     let r = c.args.lane.now.state in
     let s = c.make_place.new.lane.state in
     let t = c.take_message.new.lane.state in
-    goes_on_telling (d u) (d v) fits u v w x x (g.T.Tell.told c.go_on_and_tell.new.tell) k k c.go_on_and_tell.new.told r t c.go_on_and_tell.new.lane.state a b b c.make_place.ensures.describes
-    (goes_on_telling (d u) (d v) fits u v v x x x k k k r s t a a b c.make_place.ensures.describes (c.make_place.ensures.told x k a) (takes_some_told (d v) fits v x k s t a b c.in_ok-message.message c.in_ok-message.ensures.takes c.in_ok-message.ensures.nothing))
+    goes_on_telling (d u) (d v) fits carries u v w x x (g.T.Tell.told c.go_on_and_tell.new.tell) k k c.go_on_and_tell.new.told r t c.go_on_and_tell.new.lane.state a b b c.make_place.ensures.describes
+    (goes_on_telling (d u) (d v) fits carries u v v x x x k k k r s t a a b c.make_place.ensures.describes (c.make_place.ensures.told x k a) (takes_some_told (d v) fits carries v x k s t a b c.in_ok-message.message c.in_ok-message.ensures.takes c.in_ok-message.ensures.nothing))
     (c.go_on_and_tell.ensures.told b)
 
 pub returns-in_err-go_on_and_tell-clause-stopped : goal.returns-in_err-go_on_and_tell-clause-stopped
@@ -51,6 +53,7 @@ returns-in_err-go_on_and_tell-clause-stopped g c =
     let p = err_from_is_err_and c.from_residual-in_err-go_on_and_tell.result c.from_residual-in_err-go_on_and_tell.ensures.1 in
     let d = g.W.Wire.describes in
     let fits = g.W.Wire.fits in
+    let carries = g.W.Wire.carries in
     let u = c.args.wire.now in
     let v = c.make_place.new.wire in
     let w = c.go_on_and_tell.new.wire in
@@ -64,8 +67,8 @@ returns-in_err-go_on_and_tell-clause-stopped g c =
     rw (p.1, p.2) (
       b,
       heard_all Memory b,
-      goes_on_telling (d u) (d v) fits u v w x x (g.T.Tell.told c.go_on_and_tell.new.tell) k k c.go_on_and_tell.new.told r t c.go_on_and_tell.new.lane.state a b b c.make_place.ensures.describes
-          (goes_on_telling (d u) (d v) fits u v v x x x k k k r s t a a b c.make_place.ensures.describes (c.make_place.ensures.told x k a) (takes_some_told (d v) fits v x k s t a b c.in_ok-message.message c.in_ok-message.ensures.takes c.in_ok-message.ensures.nothing))
+      goes_on_telling (d u) (d v) fits carries u v w x x (g.T.Tell.told c.go_on_and_tell.new.tell) k k c.go_on_and_tell.new.told r t c.go_on_and_tell.new.lane.state a b b c.make_place.ensures.describes
+          (goes_on_telling (d u) (d v) fits carries u v v x x x k k k r s t a a b c.make_place.ensures.describes (c.make_place.ensures.told x k a) (takes_some_told (d v) fits carries v x k s t a b c.in_ok-message.message c.in_ok-message.ensures.takes c.in_ok-message.ensures.nothing))
           (c.go_on_and_tell.ensures.told b),
     )
 
@@ -73,6 +76,7 @@ pub returns-then-may_gather-clause-told : goal.returns-then-may_gather-clause-to
 returns-then-may_gather-clause-told g c =
     let d = g.W.Wire.describes in
     let fits = g.W.Wire.fits in
+    let carries = g.W.Wire.carries in
     let u = c.args.wire.now in
     let v = c.make_place.new.wire in
     let x = g.T.Tell.told c.args.tell.now in
@@ -82,4 +86,4 @@ returns-then-may_gather-clause-told g c =
     let r = c.args.lane.now.state in
     let s = c.make_place.new.lane.state in
     let t = c.take_message.new.lane.state in
-    goes_on_telling (d u) (d v) fits u v v x x x k k k r s t a a b c.make_place.ensures.describes (c.make_place.ensures.told x k a) (takes_some_told (d v) fits v x k s t a b c.in_ok-message.message c.in_ok-message.ensures.takes c.in_ok-message.ensures.nothing)
+    goes_on_telling (d u) (d v) fits carries u v v x x x k k k r s t a a b c.make_place.ensures.describes (c.make_place.ensures.told x k a) (takes_some_told (d v) fits carries v x k s t a b c.in_ok-message.message c.in_ok-message.ensures.takes c.in_ok-message.ensures.nothing)

@@ -12,5 +12,5 @@ loop-lane-preserved g c =
     record {
       places = omega (arith, i.places, s.1, p.len, p.capacity);
       tell_places = omega (arith, i.tell_places, s.1, q.len, q.capacity);
-      joins = rw (p.items, q.items) (joins_on g.W.Wire.describes g.W.Wire.fits g.T.Tell.told _ _ (into_iter_items c.next.new.self) _ _ c.in-Some.lane c.join-end.result.0 c.join-end.result.1 i.joins s.0 c.join-end.ensures.0 c.join-end.ensures.1);
+      joins = rw (p.items, q.items) (joins_on g.W.Wire.describes g.W.Wire.fits g.W.Wire.carries g.T.Tell.told _ _ (into_iter_items c.next.new.self) _ _ c.in-Some.lane c.join-end.result.0 c.join-end.result.1 i.joins s.0 c.join-end.ensures.0 c.join-end.ensures.1);
     }

@@ -7,5 +7,5 @@ abbrev pub invariant-loop-lane : goal.invariant-loop-lane
 invariant-loop-lane g l = record {
   places : vec_len l.ends + into_iter_len l.lane-iterator ≤ vec_capacity l.ends;
   tell_places : vec_len l.tells + into_iter_len l.lane-iterator ≤ vec_capacity l.tells;
-  joins : JoinsOn g.W.Wire.describes g.W.Wire.fits g.T.Tell.told l.fn.lanes.items (into_iter_items l.lane-iterator) l.ends.items l.tells.items;
+  joins : JoinsOn g.W.Wire.describes g.W.Wire.fits g.W.Wire.carries g.T.Tell.told l.fn.lanes.items (into_iter_items l.lane-iterator) l.ends.items l.tells.items;
 }

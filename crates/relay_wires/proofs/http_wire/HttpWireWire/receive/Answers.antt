@@ -82,6 +82,9 @@ returns-in_err-conn-clause-brings g c =
     }) in
     subst (λ (w : Carrier g.row.P.Denot). Brings g.P.Peer.describes g.P.Peer.does c.args.number w new c.from_residual.result) c.self.view_is brings
 
+pub returns-in_err-conn-clause-carries : goal.returns-in_err-conn-clause-carries
+returns-in_err-conn-clause-carries g c = (_, refl, returns-in_err-conn-clause-brings g c)
+
 pub returns-in_err-conn-clause-outside : goal.returns-in_err-conn-clause-outside
 returns-in_err-conn-clause-outside g c =
     let p = err_from_is_err_and c.from_residual.result c.from_residual.ensures.1 in
@@ -133,6 +136,9 @@ returns-clause-brings g c =
       after = rw (c.take.ensures.besides, b.free) refl;
     }) in
     subst (λ (w : Carrier g.row.P.Denot). Brings g.P.Peer.describes g.P.Peer.does c.args.number w new c.bring.result) c.self.view_is brings
+
+pub returns-clause-carries : goal.returns-clause-carries
+returns-clause-carries g c = (c.bring.result, refl, returns-clause-brings g c)
 
 pub returns-clause-outside : goal.returns-clause-outside
 returns-clause-outside g c =

@@ -1,4 +1,4 @@
-use Rattle.std.proofs.Common.{rules, ◌≡◌, Err, Ok, refl, subst, string_bytes}
+use Rattle.std.proofs.Common.{rules, ◌≡◌, Err, Ok, refl, subst, string_bytes, inl, inr}
 use Rattle.std.proofs.lemmas.Result.{err_from_is_err_and}
 use Rattle.relay_results.specs.Outside.{Lost}
 use Rattle.relay_lane.specs.Wires.{SendsOn, ExchangesOn, ShowsNext}
@@ -7,7 +7,7 @@ use Rattle.relay_wires.specs.Carriers.{Carrier, Sends, WritesOn}
 use Rattle.relay_wires.specs.Telling.{Fits}
 use Rattle.relay_results.specs.declared.cause.Loss.TheVariants as loss
 use Rattle.relay_wires.proofs.Telling.{picked_none, unwritten_picked, written_on, sent_fits, unsent_fits}
-use Rattle.relay_wires.proofs.Connections.{few_after, few_left, open_after, sends_none, sends_on}
+use Rattle.relay_wires.proofs.Connections.{few_after, few_left, open_after, sends_none, sends_on, carried_sent}
 use Rattle.relay_wires.proofs.http_wire.HttpWireWire.send.Goals as goal
 
 pub invariant_of-self-in_err-carry : goal.invariant_of-self-in_err-carry
@@ -87,6 +87,18 @@ returns-clause-sends g c =
     (sends_on c.self.inside.peer c.args.number c.args.writes.now (string_bytes c.self.inside.host) c.self.inside.most c.self.inside.out.items c.push_front_reserved.new.self.items c.self.inside.free.items c.pick.new.free.items
     (g.D.Dial.failed c.self.inside.dial) (g.D.Dial.failed c.pick.new.dial) (g.D.Dial.dialled c.self.inside.dial) (g.D.Dial.dialled c.pick.new.dial) c.in_ok-conn.conn c.carry.new.conn (Ok tt)
     c.in_ok-conn.ensures.picks (subst (λ h. WritesOn h c.args.writes.now c.in_ok-conn.conn c.carry.new.conn (Ok tt)) host c.in_ok-carry.ensures) c.push_front_reserved.ensures.items)
+
+pub returns-then-len-self-clause-carries : goal.returns-then-len-self-clause-carries
+returns-then-len-self-clause-carries g c = carried_sent g.P.Peer.describes g.P.Peer.does c.args.number c.args.writes.now _ _ (Err loss.Unreachable) (inr (inl (search rules, refl)))
+
+pub returns-in_err-conn-clause-carries : goal.returns-in_err-conn-clause-carries
+returns-in_err-conn-clause-carries g c = carried_sent g.P.Peer.describes g.P.Peer.does c.args.number c.args.writes.now _ _ _ (returns-in_err-conn-clause-sends g c)
+
+pub returns-in_err-carry-clause-carries : goal.returns-in_err-carry-clause-carries
+returns-in_err-carry-clause-carries g c = carried_sent g.P.Peer.describes g.P.Peer.does c.args.number c.args.writes.now _ _ _ (returns-in_err-carry-clause-sends g c)
+
+pub returns-clause-carries : goal.returns-clause-carries
+returns-clause-carries g c = carried_sent g.P.Peer.describes g.P.Peer.does c.args.number c.args.writes.now _ _ (Ok tt) (returns-clause-sends g c)
 
 pub returns-then-len-self-clause-outside : goal.returns-then-len-self-clause-outside
 returns-then-len-self-clause-outside g c =
