@@ -11,7 +11,7 @@ import threading
 import time
 
 from bulk_server import Server
-from program import RELAY, check, run
+from program import RELAY, check, run, unlogged
 from proxy_cases import Proxy, TlsServer, certificate
 from run_cases import HINT, REPORT, relay_run, wait_for, written
 from stub_cases import NOT_BULK, Stub, free_port
@@ -117,7 +117,7 @@ def pairs():
                 running.append(subprocess.Popen(args, stdin=subprocess.DEVNULL, stdout=subprocess.PIPE, stderr=subprocess.PIPE))
             for one in running:
                 out, err = one.communicate(timeout=120)
-                finished.append((pair, one.returncode, out, err))
+                finished.append((pair, one.returncode, out, unlogged(err)))
         listed = finish(stub)
         applied = {}
         for line in listed:
@@ -288,7 +288,7 @@ def overlapping():
                 file.write('{"index":{"_index":"books","_id":"%s"}}\n{"by":"older"}\n' % identity)
         out, err = older.communicate(timeout=60)
         check("the newer run", newer == ALL_DONE, newer)
-        check("the older run", (older.returncode, out, err) == (5, b"report 1.0:1 books/a Conflict\napplied 1 already 0 reported 1\n", b"the index has versions of epoch 2: run again with --epoch 3 or higher\n"), (out, err))
+        check("the older run", (older.returncode, out, unlogged(err)) == (5, b"report 1.0:1 books/a Conflict\napplied 1 already 0 reported 1\n", b"the index has versions of epoch 2: run again with --epoch 3 or higher\n"), (out, err))
         check("what the index has", epochs_of(server, "a") == [2] and epochs_of(server, "b") == [1])
         server.close()
 

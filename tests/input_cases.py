@@ -5,7 +5,7 @@ import tempfile
 import time
 
 from bulk_server import Server
-from program import RELAY, check
+from program import RELAY, check, unlogged
 from run_cases import judge, operations, relay_run, written
 
 ONE = b'{"index":{"_index":"b","_id":"%d"}}\n{"n":%d}\n'
@@ -19,7 +19,7 @@ def started(server, *args, stdin=subprocess.PIPE):
 
 def ended(process):
     out, err = process.communicate(timeout=120)
-    return process.returncode, out, err
+    return process.returncode, out, unlogged(err)
 
 
 def wait_for_writes(server, count):
@@ -96,7 +96,7 @@ def pipes_without_writers():
         check("two pipes, the second first", done == (0, b"applied 3 already 0 reported 0\n", b""), done)
         gone = os.path.join(folder, "gone")
         done = ended(started(server, "--epoch", "1", gone, third))
-        check("a file that is not there", done == (3, b"applied 1 already 0 reported 0\n", b"%s: open failed\n" % gone.encode()), done)
+        check("a file that is not there", done == (3, b"applied 1 already 0 reported 0\n", b"%s: open failed\n  entity not found\n" % gone.encode()), done)
         server.close()
 
 
@@ -132,7 +132,7 @@ def at_fault():
         root = os.open("/", os.O_RDONLY)
         done = ended(started(server, "--epoch", "1", "-", stdin=root))
         os.close(root)
-        check("a directory", done == (3, b"applied 0 already 0 reported 0\n", b"-: read failed\n"), done)
+        check("a directory", done == (3, b"applied 0 already 0 reported 0\n", b"-: read failed\n  is a directory\n"), done)
         done = ended(started(server, "--epoch", "1", "-", stdin=subprocess.DEVNULL))
         check("nothing", done == (0, b"applied 0 already 0 reported 0\n", b""), done)
         path = os.path.join(folder, "-")

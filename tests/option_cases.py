@@ -6,7 +6,7 @@ import threading
 import time
 
 from bulk_server import Server, writes_of
-from program import RELAY, check
+from program import RELAY, check, unlogged
 from run_cases import operations, relay_run, written
 
 
@@ -50,7 +50,7 @@ class Pipe:
             file.close()
         out, err = self.process.communicate(timeout=120)
         self.closes()
-        return self.process.returncode, out, err
+        return self.process.returncode, out, unlogged(err)
 
 
 def batches():

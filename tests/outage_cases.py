@@ -7,7 +7,7 @@ import threading
 import time
 
 from bulk_server import Server
-from program import RELAY, check
+from program import RELAY, check, unlogged
 from run_cases import judge, operations, relay_run, written
 from stub_cases import free_port
 
@@ -176,7 +176,7 @@ def server_that_is_not_there_yet():
         server = Server()
         server.move(port)
         out, err = running.communicate(timeout=60)
-        check("a server that is not there yet", (running.returncode, out, err) == (0, b"applied 1 already 0 reported 0\n", b""), (running.returncode, out, err))
+        check("a server that is not there yet", (running.returncode, out, unlogged(err)) == (0, b"applied 1 already 0 reported 0\n", b""), (running.returncode, out, err))
         server.close()
 
 
@@ -190,7 +190,7 @@ def killed_while_it_waits():
             time.sleep(1)
             running.send_signal(signal.SIGKILL)
             out, err = running.communicate(timeout=60)
-            check("killed while it waits", (running.returncode, out, err) == (-9, b"", b""), (running.returncode, out, err))
+            check("killed while it waits", (running.returncode, out, unlogged(err)) == (-9, b"", b""), (running.returncode, out, err))
         server.close()
         server = Server()
         judge("the run after it", server, [ops], relay_run(server.port, [path], "--epoch", "1"))

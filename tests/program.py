@@ -1,5 +1,6 @@
 """Runs the built program: both output streams and the exit status, byte for byte."""
 import os
+import re
 import subprocess
 import sys
 
@@ -9,6 +10,15 @@ RESULTS = {"passed": 0, "failed": 0}
 SECONDS = int(os.environ.get("SECONDS_FOR_A_RUN", "60"))
 # Set by `try.py`, since a program with run-time checks is slow: what takes many minutes then is left to `make test`, and each case says so.
 FEWER = "FEWER_CASES" in os.environ
+
+
+# A line about what goes wrong while a run goes on: each has the time, and on a terminal replaces the one before.
+LOGGED = re.compile(rb"(?:\r\x1b\[K)?\d{4}-\d\d-\d\dT\d\d:\d\d:\d\dZ [^\r\n]*\r?\n")
+
+
+def unlogged(err):
+    """Returns standard error without these lines, of which `log_cases.py` has the tests."""
+    return LOGGED.sub(b"", err)
 
 
 def check(name, right, found=""):

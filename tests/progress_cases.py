@@ -15,7 +15,7 @@ LINE = re.compile(rb"read (\d+)(?: of (\d+))? bytes(?: \((\d+) %\))?, sent (\d+)
 
 
 def progress_run(port, files, *more, stdin=subprocess.DEVNULL):
-    args = [RELAY, "run", "--to", "127.0.0.1:%d" % port, *more, *files]
+    args = [RELAY, "run", "--to", "127.0.0.1:%d" % port, "--log", "none", *more, *files]
     done = subprocess.run(args, stdin=stdin, capture_output=True, timeout=120)
     return done.returncode, done.stdout, done.stderr
 
@@ -74,7 +74,7 @@ def no_connection():
         status, out, err = progress_run(port, [path], "--progress", "--attempts", "4")
         said = b"127.0.0.1:%d: connection refused, trying again\n" % port
         check("no connection", status == 5 and err.startswith(said) and err.count(b"connection refused") == 1 and b", out 0, no answer yet\n" in err, (status, err))
-        args = [RELAY, "run", "--to", "127.0.0.1:%d" % port, "--progress", "--patience", "60", path]
+        args = [RELAY, "run", "--to", "127.0.0.1:%d" % port, "--progress", "--log", "none", "--patience", "60", path]
         running = subprocess.Popen(args, stdin=subprocess.DEVNULL, stdout=subprocess.PIPE, stderr=subprocess.PIPE)
         start = time.monotonic()
         first = running.stderr.readline()
@@ -90,7 +90,7 @@ def no_connection():
 def on_a_terminal(port, files, *more):
     """Runs with a terminal as standard error, and returns what the terminal received."""
     ours, theirs = pty.openpty()
-    running = subprocess.Popen([RELAY, "run", "--to", "127.0.0.1:%d" % port, *more, *files], stdin=subprocess.DEVNULL, stdout=subprocess.PIPE, stderr=theirs)
+    running = subprocess.Popen([RELAY, "run", "--to", "127.0.0.1:%d" % port, "--log", "none", *more, *files], stdin=subprocess.DEVNULL, stdout=subprocess.PIPE, stderr=theirs)
     os.close(theirs)
     came = b""
     while True:

@@ -10,7 +10,7 @@ import socket
 import subprocess
 import tempfile
 
-from program import RELAY
+from program import RELAY, unlogged
 from run_cases import operations, wait_for, written
 from stub_cases import Stub
 
@@ -71,7 +71,7 @@ def run_of(port, files, environment):
         done = subprocess.run(args, env=environment, stdin=subprocess.DEVNULL, capture_output=True, timeout=SECONDS)
     except subprocess.TimeoutExpired:
         return None, b"", b"", True
-    return done.returncode, done.stdout, done.stderr.replace(REFUSED, b""), REFUSED in done.stderr
+    return done.returncode, done.stdout, unlogged(done.stderr.replace(REFUSED, b"")), REFUSED in done.stderr
 
 
 def is_out_of_memory(status, out, err):

@@ -7,7 +7,7 @@ import threading
 import time
 
 from bulk_server import Server
-from program import RELAY, check
+from program import RELAY, check, unlogged
 from run_cases import HINT, operations, relay_run, written
 from stub_cases import free_port
 
@@ -79,7 +79,7 @@ def files_that_fail():
 
 def refused(path, report, *more, stdin=subprocess.DEVNULL):
     done = subprocess.run([RELAY, "run", "--to", "127.0.0.1:%d" % free_port(), "--attempts", "1", "--report", report, *more, path], stdin=stdin, capture_output=True, timeout=60)
-    return done.stdout, done.stderr, done.returncode
+    return done.stdout, unlogged(done.stderr), done.returncode
 
 
 NOT_APART = b"error: --report FILE has to be a file of its own: not '-', and none of those that are read\n"
@@ -217,7 +217,7 @@ def draining():
         check("a report is saved while its lane drains", came and process.poll() is None, (calls, count_of(report)))
         released.set()
         out, err = process.communicate()
-        check("all reports of a lane that drained", named(content(report)) == [(0, n) for n in (1, 2, 3)] and (process.returncode, err) == (5, b""), (out, err))
+        check("all reports of a lane that drained", named(content(report)) == [(0, n) for n in (1, 2, 3)] and (process.returncode, unlogged(err)) == (5, b""), (out, err))
         server.close()
 
 
@@ -256,7 +256,7 @@ def a_pipe():
         check("a pipe gets a report while the run goes on", until(lambda: came == [gave_up % (1, 1)]) and process.poll() is None, came)
         out, err = process.communicate(deletes([2]))
         reader.join()
-        check("a pipe gets all reports", came == [gave_up % (n, n) for n in (1, 2)] and process.returncode == 5 and err == b"", (came, out, err))
+        check("a pipe gets all reports", came == [gave_up % (n, n) for n in (1, 2)] and process.returncode == 5 and unlogged(err) == b"", (came, out, err))
 
 
 GROUPS = (what_is_saved, files_that_fail, files_of_another, added, killed, draining, eight_lanes, a_pipe)

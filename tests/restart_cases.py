@@ -7,7 +7,7 @@ import tempfile
 import time
 
 from bulk_server import Server
-from program import RELAY, check
+from program import RELAY, check, unlogged
 from run_cases import operations, put_to, relay_run, written
 
 TRIALS, KILLS = 10, 10
@@ -53,7 +53,7 @@ def killed():
             running = start(server.port, files, KILLS)
             out, err = running.communicate(timeout=120)
             counts = re.fullmatch(rb"applied (\d+) already (\d+) reported 0\n", out)
-            check("trial %d: the last run ends" % trial, (running.returncode, err) == (0, b"") and counts is not None and sum(map(int, counts.groups())) == 270, (out, err))
+            check("trial %d: the last run ends" % trial, (running.returncode, unlogged(err)) == (0, b"") and counts is not None and sum(map(int, counts.groups())) == 270, (out, err))
             time.sleep(0.2)
             judge("trial %d" % trial, server, producers, KILLS)
             server.close()

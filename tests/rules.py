@@ -94,6 +94,7 @@ HOMES = {
     "relay_producer": (RUN, {}),
     "relay_progress": (RUN, {}),
     "relay_queue": (RUN, {}),
+    "relay_sift": (RUN, {"private:": CODE}),
     "relay_report": (PICK, {"the line of a report": (RUN, PICK), "the lines of several": RUN}),
     "relay_results": (REPLIES, {
         "documents, actions and writes": CODE,
@@ -131,7 +132,7 @@ OUTSIDE = {
     LANE: ("option_cases.py", "several_cases.py", "restart_cases.py"),
     SCRIPT: ("world_cases.py", "world_scripts.py"),
     WORLD: ("world_cases.py",),
-    RUN: ("run_cases.py", "option_cases.py", "outage_cases.py", "input_cases.py", "report_cases.py", "progress_cases.py"),
+    RUN: ("run_cases.py", "option_cases.py", "outage_cases.py", "input_cases.py", "report_cases.py", "progress_cases.py", "log_cases.py"),
     PICK: ("pick_cases.py",),
     EPOCHS: ("epoch_cases.py",),
     STUB: ("stub_cases.py", "client_cases.py", "epoch_cases.py"),

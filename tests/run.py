@@ -10,6 +10,7 @@ import client_cases
 import epoch_cases
 import input_cases
 import lines_cases
+import log_cases
 import option_cases
 import outage_cases
 import pause_cases
@@ -22,6 +23,7 @@ import report_cases
 import restart_cases
 import run_cases
 import several_cases
+import skip_cases
 import socket_cases
 import stop_cases
 import stub_cases
@@ -40,7 +42,7 @@ def command_line():
     for kind in (b"LineLong", b"NotJson", b"UnsupportedField", b"SourceNewline", b"VersionsSpent", b"relay lines --index"):
         check("help lines names %s" % kind, kind in kinds)
     running = run(["help", "run"]).stdout
-    for word in (b"zcat dump.gz | relay run", b"--timeout <DURATION>", b"--patience <DURATION>", b"--report <FILE>", b"--progress", b"12.7 s", b"166 s", b"below twice --count", b"1.4 GB per lane", b"a run that is killed prints none", b"stopped after N reports"):
+    for word in (b"zcat dump.gz | relay run", b"--timeout <DURATION>", b"--patience <DURATION>", b"--report <FILE>", b"--progress", b"12.7 s", b"166 s", b"below twice --count", b"4.6 GB per lane", b"a run that is killed prints none", b"stopped after N reports", b"--log <WHAT>", b"[default: errors]", b"up again after"):
         check("help run names %s" % word, word in running)
     script = run(["help", "world"]).stdout
     for word in (b"world LANES", b"put P INDEX ID index SOURCE", b"reply R N ..", b"restart EPOCH", b"NotAbove", b"NumbersSpent", b"BadLine", b"finished yes"):
@@ -72,9 +74,9 @@ def command_line():
 # The suites by name, in the order in which they run.
 SUITES = {
     "lines": lines_cases.GROUPS, "apply": apply_cases.GROUPS, "stub": stub_cases.GROUPS, "client": client_cases.GROUPS, "run": run_cases.GROUPS,
-    "pick": pick_cases.GROUPS, "proxy": proxy_cases.GROUPS, "reason": reason_cases.GROUPS, "option": option_cases.GROUPS, "several": several_cases.GROUPS,
+    "pick": pick_cases.GROUPS, "proxy": proxy_cases.GROUPS, "reason": reason_cases.GROUPS, "option": option_cases.GROUPS, "several": several_cases.GROUPS, "skip": skip_cases.GROUPS,
     "input": input_cases.GROUPS, "outage": outage_cases.GROUPS, "socket": socket_cases.GROUPS, "pause": pause_cases.GROUPS, "report": report_cases.GROUPS, "stop": stop_cases.GROUPS,
-    "progress": progress_cases.GROUPS, "reply": reply_cases.GROUPS, "too_large": too_large_cases.GROUPS, "restart": restart_cases.GROUPS,
+    "progress": progress_cases.GROUPS, "log": log_cases.GROUPS, "reply": reply_cases.GROUPS, "too_large": too_large_cases.GROUPS, "restart": restart_cases.GROUPS,
     "epoch": epoch_cases.GROUPS, "world": world_cases.GROUPS, "scripts": world_cases.SCRIPTS, "command_line": (command_line,),
 }
 

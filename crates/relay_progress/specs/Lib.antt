@@ -1,2 +1,5 @@
 pub mod Lines
 pub mod Troubles
+pub mod Reasons
+pub mod Events
+pub mod Saying

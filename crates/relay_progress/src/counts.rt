@@ -1,4 +1,8 @@
 //! The counts of a run, shared between its threads.
+use crate::reason::{code_of, loss_of};
+use crate::refusals::{Refusal, Refusals};
+use crate::sight::Sight;
+use relay_lane::Loss;
 use std::alloc::{AllocError, Global};
 use std::sync::Arc;
 use std::sync::atomic::{AtomicU64, Ordering};
@@ -43,6 +47,14 @@ pub struct Counts {
     refused: AtomicU64,
     repeats: AtomicU64,
     trouble: AtomicU64,
+    // How many exchanges and tries to connect failed, the code of why the last one did, and 1 if
+    // nothing was answered since.
+    failures: AtomicU64,
+    reason: AtomicU64,
+    down: AtomicU64,
+    too_large: AtomicU64,
+    conflicts: AtomicU64,
+    refusals: Refusals,
 }
 
 /// Counts that several threads hold.
@@ -51,10 +63,10 @@ pub type Shared = Arc<Counts, Global>;
 impl Counts {
     /// Counts that are all 0. `AllocError`: allocation failed.
     pub fn shared(alloc: Global) -> Result<Shared, AllocError> {
-        Ok(Arc::new(alloc, Counts::new())?)
+        Ok(Arc::new(alloc, Counts::new(Refusals::new(alloc)?))?)
     }
 
-    fn new() -> Counts {
+    fn new(refusals: Refusals) -> Counts {
         Counts {
             read: AtomicU64::new(0),
             requests: AtomicU64::new(0),
@@ -65,6 +77,12 @@ impl Counts {
             refused: AtomicU64::new(0),
             repeats: AtomicU64::new(0),
             trouble: AtomicU64::new(0),
+            failures: AtomicU64::new(0),
+            reason: AtomicU64::new(0),
+            down: AtomicU64::new(0),
+            too_large: AtomicU64::new(0),
+            conflicts: AtomicU64::new(0),
+            refusals,
         }
     }
 
@@ -102,6 +120,59 @@ impl Counts {
     /// How the last try to make a connection ended.
     pub fn trouble(&self) -> Trouble {
         Trouble::of_code(self.trouble.load(Ordering::SeqCst))
+    }
+
+    /// Notes that an exchange, or a try to connect, failed.
+    pub fn note_failure(&self, reason: Loss) {
+        self.reason.store(code_of(reason), Ordering::SeqCst);
+        self.failures.fetch_add(1, Ordering::SeqCst);
+        self.down.store(1, Ordering::SeqCst);
+    }
+
+    /// Notes that a request was answered, whatever the answer was.
+    pub fn note_answer(&self) {
+        if self.down.load(Ordering::SeqCst) != 0 {
+            self.down.store(0, Ordering::SeqCst);
+        }
+    }
+
+    /// Notes that a request was answered with 413.
+    pub fn note_too_large(&self) {
+        self.too_large.fetch_add(1, Ordering::SeqCst);
+    }
+
+    /// Notes that an operation is reported as a conflict.
+    pub fn note_conflict(&self) {
+        self.conflicts.fetch_add(1, Ordering::SeqCst);
+    }
+
+    /// Notes a refusal: its status, and the type of the error, or none if it is that of a whole
+    /// request. The first of each is kept, unless an allocation for it fails.
+    pub fn note_refusal(&self, alloc: Global, status: u16, kind: Option<&str>) {
+        self.refusals.note(alloc, status, kind);
+    }
+
+    /// The refusal at this place, from 0. `None` at the end.
+    pub fn refusal(&self, place: usize) -> Option<&Refusal> {
+        self.refusals.get(place)
+    }
+
+    /// Whether the refusal at this place is at an earlier one too.
+    pub fn is_repeated(&self, place: usize) -> bool {
+        self.refusals.is_repeated(place)
+    }
+
+    /// What is to be seen this many milliseconds after the run began.
+    pub fn sight(&self, moment: u64) -> Sight {
+        Sight {
+            moment,
+            is_down: self.down.load(Ordering::SeqCst) != 0,
+            reason: loss_of(self.reason.load(Ordering::SeqCst)),
+            failures: self.failures.load(Ordering::SeqCst),
+            requests: self.requests(),
+            too_large: self.too_large.load(Ordering::SeqCst),
+            conflicts: self.conflicts.load(Ordering::SeqCst),
+        }
     }
 
     /// The number of bytes that were read.

@@ -1,10 +1,11 @@
 //! A watched dial.
 ghost use Rattle.std.specs.Prelude.{◌≡◌};
-ghost use Rattle.relay_progress.specs.Troubles.{trouble_of};
+ghost use Rattle.relay_progress.specs.Troubles.{loss_of, trouble_of};
 
 use crate::counts::{Shared, Trouble};
 use relay_action::StdStream;
 use relay_http::{Dial, DialFault};
+use relay_lane::Loss;
 use relay_net::TcpDial;
 use std::io::ErrorKind;
 use std::marker::Model;
@@ -46,6 +47,9 @@ impl<R: Net> Dial<StdStream<R::Stream>> for CountedDial<R> {
         if let Some(counts) = &self.counts {
             counts.set_trouble(trouble_of(self.dial.fault()));
         }
+        if let (Some(counts), Err(fault)) = (&self.counts, &result) {
+            counts.note_failure(loss_of(*fault));
+        }
         result
     }
 }
@@ -59,5 +63,16 @@ fn trouble_of(fault: Option<ErrorKind>) -> Trouble
         Some(ErrorKind::ConnectionRefused) => Trouble::Refused,
         Some(ErrorKind::TimedOut) => Trouble::TimedOut,
         Some(_) => Trouble::Other,
+    }
+}
+
+// Why a request is lost for which there is no connection.
+fn loss_of(fault: DialFault) -> Loss
+    ensures { result ≡ loss_of fault }
+{
+    match fault {
+        DialFault::Refused => Loss::Refused,
+        DialFault::TimedOut => Loss::TimedOut,
+        DialFault::Unreachable => Loss::Unreachable,
     }
 }

@@ -1,6 +1,8 @@
 //! Writing the progress of a run while it works.
 use crate::counts::{Counts, Trouble};
+use crate::event::Event;
 use crate::line::{Progress, trouble_text, written_text};
+use crate::log::{Log, Logging, say_end, say_event};
 use crossbeam_channel::{Receiver, RecvTimeoutError};
 use relay_action::{ByteOut, write_all};
 use std::alloc::{AllocError, Global};
@@ -18,6 +20,12 @@ pub struct Show {
     pub address: String,
     /// The number of bytes to read, if it is known.
     pub size: Option<u64>,
+    /// What is said of what goes wrong, each line with the time.
+    pub log: Log,
+    /// The epoch of the run.
+    pub epoch: u32,
+    /// How many lanes it has.
+    pub lanes: u32,
 }
 
 // The time between two looks at the counts, in milliseconds, and the number of looks per line.
@@ -32,11 +40,13 @@ struct Seen {
     answers: u64,
     answered: Option<Instant>,
     trouble: Trouble,
+    log: Logging,
 }
 
 /// Writes the progress of a run until every sender of `ended` is gone, and once more at the end: a
-/// line every second if asked for, and without delay that no connection can be made, or that one
-/// was made again. What cannot be written or allocated is left out.
+/// line every second if asked for, and what the log says, within a tenth of a second. Without a log
+/// that is that no connection can be made, or that one was made again. What cannot be written or
+/// allocated is left out.
 pub fn show_progress<R: Wait + Clock, E: ByteOut>(
     rt: &R,
     alloc: Global,
@@ -50,7 +60,9 @@ pub fn show_progress<R: Wait + Clock, E: ByteOut>(
         answers: 0,
         answered: None,
         trouble: Trouble::None,
+        log: Logging::new(rt),
     };
+    let _ = say_start(rt, alloc, show, err);
     'looks: for _ in rt.forever() {
         match ended.recv_timeout(rt, Duration::from_millis(LOOK)) {
             Err(RecvTimeoutError::Timeout) => {
@@ -73,13 +85,45 @@ fn look<R: Clock, E: ByteOut>(
     err: &mut E,
 ) -> Result<(), AllocError> {
     see_answers(rt, counts, seen);
-    say_trouble(alloc, show, counts, seen, err)?;
+    say_new(rt, alloc, show, counts, seen, err)?;
     seen.looks = seen.looks.saturating_add(1);
     if seen.looks < LOOKS_A_LINE || !show.lines {
         return Ok(());
     }
     seen.looks = 0;
     say_line(rt, alloc, show, counts, seen, err)
+}
+
+// Writes that the run has begun, if the log says so.
+fn say_start<R: Clock, E: ByteOut>(
+    rt: &R,
+    alloc: Global,
+    show: &Show,
+    err: &mut E,
+) -> Result<(), AllocError> {
+    if show.log != Log::Events {
+        return Ok(());
+    }
+    let event = Event::Start {
+        epoch: show.epoch,
+        lanes: show.lanes,
+    };
+    say_event(rt, alloc, show, &event, err)
+}
+
+// Writes what the log says, or what is new about connections if there is none.
+fn say_new<R: Clock, E: ByteOut>(
+    rt: &R,
+    alloc: Global,
+    show: &Show,
+    counts: &Counts,
+    seen: &mut Seen,
+    err: &mut E,
+) -> Result<(), AllocError> {
+    match show.log {
+        Log::None => say_trouble(alloc, show, counts, seen, err),
+        _ => seen.log.say_new(rt, alloc, show, counts, err),
+    }
 }
 
 // Remembers when an answer was first seen.
@@ -124,7 +168,8 @@ fn say_line<R: Clock, E: ByteOut>(
     Ok(())
 }
 
-// Writes what is new about connections, and the last line, which is not overwritten.
+// Writes what is new, the last line, which is not overwritten, and that the run has ended, if the log
+// says so.
 fn say_last<R: Clock, E: ByteOut>(
     rt: &R,
     alloc: Global,
@@ -133,16 +178,19 @@ fn say_last<R: Clock, E: ByteOut>(
     seen: &mut Seen,
     err: &mut E,
 ) -> Result<(), AllocError> {
-    say_trouble(alloc, show, counts, seen, err)?;
-    if !show.lines {
+    say_new(rt, alloc, show, counts, seen, err)?;
+    if show.lines {
+        see_answers(rt, counts, seen);
+        say_line(rt, alloc, show, counts, seen, err)?;
+        if show.over {
+            let _ = write_all(err, b"\n");
+        }
+    }
+    if show.log != Log::Events {
         return Ok(());
     }
-    see_answers(rt, counts, seen);
-    say_line(rt, alloc, show, counts, seen, err)?;
-    if show.over {
-        let _ = write_all(err, b"\n");
-    }
-    Ok(())
+    let progress = progress_of(counts, show.size, idle(rt, seen));
+    say_end(rt, alloc, show, &progress, err)
 }
 
 // How many seconds ago the last answer was seen.

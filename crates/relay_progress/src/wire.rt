@@ -9,11 +9,12 @@ use relay_results::{ItemVerdict, Outcome, verdict};
 use std::alloc::Global;
 use std::marker::Model;
 
-/// A wire that wraps another, and counts requests and operations, if it has counts. It keeps the
-/// promises of the wire inside, which is what contracts see.
+/// A wire that wraps another, and counts requests and operations and what goes wrong with them, if it
+/// has counts. It keeps the promises of the wire inside, which is what contracts see.
 #[derive(Drop)]
 pub struct CountedWire<W> {
     wire: W,
+    alloc: Global,
     counts: Option<Shared>,
     // The outstanding requests, and the number of operations in each. If allocating an entry
     // failed, it is missing, and the request counts as having none.
@@ -33,6 +34,7 @@ impl<W> CountedWire<W> {
     {
         CountedWire {
             wire,
+            alloc,
             counts,
             sizes: Vec::new(alloc),
         }
@@ -56,7 +58,7 @@ impl<W: Wire> Wire for CountedWire<W> {
                 &mut self.sizes,
                 number,
                 writes.len() as u64,
-                result.is_ok(),
+                &result,
             );
         }
         result
@@ -65,7 +67,9 @@ impl<W: Wire> Wire for CountedWire<W> {
     fn receive(&mut self, number: u64) -> Result<WireReply, Loss> {
         let result = self.wire.receive(number);
         if let Some(counts) = &self.counts {
-            count_received(counts, take_size(&mut self.sizes, number), &result);
+            let operations = take_size(&mut self.sizes, number);
+            count_received(counts, operations, &result);
+            note_received(counts, self.alloc, operations, &result);
         }
         result
     }
@@ -81,13 +85,17 @@ fn count_sent(
     sizes: &mut Vec<(u64, u64)>,
     number: u64,
     operations: u64,
-    sent: bool,
+    sent: &Result<(), Loss>,
 ) {
     counts.add_request(operations);
-    if sent {
-        let _ = sizes.push((number, operations));
-    } else {
-        counts.add_loss(operations);
+    match sent {
+        Ok(()) => {
+            let _ = sizes.push((number, operations));
+        }
+        Err(loss) => {
+            counts.add_loss(operations);
+            counts.note_failure(*loss);
+        }
     }
 }
 
@@ -108,6 +116,41 @@ fn count_received(counts: &Counts, operations: u64, came: &Result<WireReply, Los
         }
         Ok(WireReply::Whole(_, _)) => counts.add_answer(0, operations, 0),
         Err(_) => counts.add_loss(operations),
+    }
+}
+
+// Notes what is wrong with what came for a request with this many operations.
+fn note_received(counts: &Counts, alloc: Global, operations: u64, came: &Result<WireReply, Loss>) {
+    match came {
+        Ok(reply) => {
+            counts.note_answer();
+            note_reply(counts, alloc, operations, reply);
+        }
+        Err(loss) => counts.note_failure(*loss),
+    }
+}
+
+// Notes the refusals of a reply to a request with this many operations: one with several that is too
+// large is sent again in halves.
+fn note_reply(counts: &Counts, alloc: Global, operations: u64, reply: &WireReply) {
+    match reply {
+        WireReply::Items(outcomes) => {
+            for outcome in outcomes {
+                note_outcome(counts, alloc, outcome);
+            }
+        }
+        WireReply::Whole(413, _) if operations >= 2 => counts.note_too_large(),
+        WireReply::Whole(status, _) => counts.note_refusal(alloc, *status, None),
+    }
+}
+
+// Notes a refusal. A conflict is none: only the lane can tell whose version was stored.
+fn note_outcome(counts: &Counts, alloc: Global, outcome: &Outcome) {
+    let Some(error) = &outcome.error else {
+        return;
+    };
+    if outcome.status != 409 {
+        counts.note_refusal(alloc, outcome.status, Some(error.kind.as_str()));
     }
 }
 

@@ -1,5 +1,5 @@
 //! Tests of `relay_progress`: what a reader, a wire and a dial count, the lines that show the
-//! counts, and when they are written.
+//! counts, when they are written, and what is said of what goes wrong.
 #![tactic(auto)]
 
 #[cfg(test)]
@@ -12,5 +12,7 @@ mod readers;
 mod refusals;
 #[cfg(test)]
 mod shown;
+#[cfg(test)]
+mod sights;
 #[cfg(test)]
 mod wires;

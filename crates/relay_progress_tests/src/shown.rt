@@ -1,7 +1,7 @@
 //! When something is written.
 use crossbeam_channel::{Receiver, Sender, bounded};
 use relay_action::MemStream;
-use relay_progress::{Counts, Show, Trouble, show_progress};
+use relay_progress::{Counts, Log, Show, Trouble, show_progress};
 use std::alloc::Global;
 use std::sync::Wait;
 use std::thread;
@@ -48,6 +48,9 @@ fn show_of(alloc: Global, lines: bool, over: bool) -> Option<Show> {
         over,
         address: String::from_str(alloc, "a:1").ok()?,
         size: None,
+        log: Log::None,
+        epoch: 0,
+        lanes: 1,
     })
 }
 

@@ -26,15 +26,17 @@ begins_on (Ok x) new mid text name end n m = ap (take (length text)) (n ∙ ap (
 begins_on (Err e) new mid text name end n m = ap (take (length text)) (n ∙ m) ∙ take-append_seam text name
 
 -- what is said of one more file
-pub said_on : (files : List (List ℕ)) (opened : List Bool) (stops : List (Option FeedFault)) (place : ℕ) (file : List ℕ) (d : Bool) (e : Option FeedFault) (text new all : List ℕ)
-    → place < length files → place < length opened → place < length stops
-    → file ≡ get_or files place file → new ≡ text ++ said_of file (file_fault (get_or opened place d) (get_or stops place e))
-    → text ++ faults_text (drop place files) (drop place opened) (drop place stops) ≡ all → new ++ faults_text (drop (place + 1) files) (drop (place + 1) opened) (drop (place + 1) stops) ≡ all
-said_on files opened stops place file d e text new all f o s at is h =
-    let said = said_of file (file_fault (get_or opened place d) (get_or stops place e)) in
-    let left = faults_text (drop (place + 1) files) (drop (place + 1) opened) (drop (place + 1) stops) in
+pub said_on : (files : List (List ℕ)) (opened : List Bool) (stops : List (Option FeedFault)) (beneath : List (List ℕ)) (place : ℕ) (file : List ℕ) (d : Bool) (e : Option FeedFault) (line text new all : List ℕ)
+    → place < length files → place < length opened → place < length stops → place < length beneath
+    → file ≡ get_or files place file → line ≡ get_or beneath place line → new ≡ text ++ said_of file (file_fault (get_or opened place d) (get_or stops place e)) line
+    → text ++ faults_text (drop place files) (drop place opened) (drop place stops) (drop place beneath) ≡ all
+    → new ++ faults_text (drop (place + 1) files) (drop (place + 1) opened) (drop (place + 1) stops) (drop (place + 1) beneath) ≡ all
+said_on files opened stops beneath place file d e line text new all f o s b at under is h =
+    let said = said_of file (file_fault (get_or opened place d) (get_or stops place e)) line in
+    let left = faults_text (drop (place + 1) files) (drop (place + 1) opened) (drop (place + 1) stops) (drop (place + 1) beneath) in
     let next : drop place files ≡ file ∷ drop (place + 1) files = drop_more files place file f ∙ ap (λ x. x ∷ drop (place + 1) files) (sym at) in
-    let whole : faults_text (drop place files) (drop place opened) (drop place stops) ≡ said ++ left = λ i. faults_text (next i) (drop_more opened place d o i) (drop_more stops place e s i) in
+    let lower : drop place beneath ≡ line ∷ drop (place + 1) beneath = drop_more beneath place line b ∙ ap (λ x. x ∷ drop (place + 1) beneath) (sym under) in
+    let whole : faults_text (drop place files) (drop place opened) (drop place stops) (drop place beneath) ≡ said ++ left = λ i. faults_text (next i) (drop_more opened place d o i) (drop_more stops place e s i) (lower i) in
     ap (λ t. t ++ left) is ∙ append_assoc text said left ∙ ap (λ t. text ++ t) (sym whole) ∙ h
 
 pub exit_on : (opened : List Bool) (stops : List (Option FeedFault)) (place : ℕ) (d : Bool) (e : Option FeedFault) (old new all : Exit)

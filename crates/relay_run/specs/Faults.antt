@@ -54,21 +54,23 @@ worse a b = if nat_lt (rank a) (rank b) then b else a
 
 -- ---- all files
 
--- the message for a file, if there is a fault
-abbrev pub said_of : List ℕ → Option FileFault → List ℕ
-said_of file None = []
-said_of file (Some f) = file_fault_line file f
+-- the message for a file, and what is said beneath it, if there is a fault
+abbrev pub said_of : List ℕ → Option FileFault → List ℕ → List ℕ
+said_of file None beneath = []
+said_of file (Some f) beneath = file_fault_line file f ++ beneath
 
 abbrev pub worse_by : Exit → Option FileFault → Exit
 worse_by end None = end
 worse_by end (Some f) = worse end (exit_of_file f)
 
--- the messages for files, in order, given for each whether it was opened and what stopped its producer
-abbrev pub faults_text : List (List ℕ) → List Bool → List (Option FeedFault) → List ℕ
-faults_text [] opened stops = []
-faults_text (file ∷ files) [] stops = []
-faults_text (file ∷ files) (was ∷ opened) [] = []
-faults_text (file ∷ files) (was ∷ opened) (stop ∷ stops) = said_of file (file_fault was stop) ++ faults_text files opened stops
+-- the messages for files, in order, given for each whether it was opened, what stopped its producer, and what is said
+-- beneath its message, if it has one
+abbrev pub faults_text : List (List ℕ) → List Bool → List (Option FeedFault) → List (List ℕ) → List ℕ
+faults_text [] opened stops beneath = []
+faults_text (file ∷ files) [] stops beneath = []
+faults_text (file ∷ files) (was ∷ opened) [] beneath = []
+faults_text (file ∷ files) (was ∷ opened) (stop ∷ stops) [] = []
+faults_text (file ∷ files) (was ∷ opened) (stop ∷ stops) (line ∷ beneath) = said_of file (file_fault was stop) line ++ faults_text files opened stops beneath
 
 -- the exit status after these faults, if it would otherwise have been this one
 abbrev pub exit_of_files : Exit → List Bool → List (Option FeedFault) → Exit

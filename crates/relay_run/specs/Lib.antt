@@ -10,6 +10,7 @@ pub mod Sources
 pub mod Stopping
 pub mod Leasing
 pub mod Hints
+pub mod LeavingOut
 pub mod ReportFile
 pub mod Resolving
 pub mod Wires

@@ -2,6 +2,8 @@
 use Rattle.std.specs.Prelude.{List, ℕ, None, codes}
 use Rattle.relay_words.specs.declared.exit.Exit.{Exit}
 use Rattle.relay_words.specs.declared.exit.Exit.TheVariants as exit
+use Rattle.relay_run.specs.declared.report_file.FileOption.{FileOption}
+use Rattle.relay_run.specs.declared.report_file.FileOption.TheVariants as option
 use Rattle.relay_run.specs.declared.report_file.ReportFile.{ReportFile}
 use Rattle.relay_run.specs.declared.report_file.ReportFileFault.{ReportFileFault}
 use Rattle.relay_run.specs.declared.report_file.ReportFileFault.TheVariants as fault
@@ -12,12 +14,23 @@ use Rattle.relay_run.specs.Saying.{file_failed_text}
 abbrev pub AreNewHandles : List (ReportFile × ℕ) → Type 0
 AreNewHandles handles = AreUnwritten (λ h. None) (λ h. h.1) handles
 
-abbrev pub report_file_text : List ℕ → ReportFileFault → List ℕ
-report_file_text name fault.Open = file_failed_text name (codes "create")
-report_file_text name fault.Input = codes "error: --report FILE has to be a file of its own: not '-', and none of those that are read\n"
-report_file_text name fault.Content = codes "error: --report FILE is not empty: --append adds to it, and otherwise it has to be a new or an empty file\n"
-report_file_text name fault.Mend = file_failed_text name (codes "append")
-report_file_text name fault.Memory = codes ""
+-- a file that is read, or written for another purpose
+abbrev pub not_apart_text : FileOption → List ℕ
+not_apart_text option.Report = codes "error: --report FILE has to be a file of its own: not '-', and none of those that are read\n"
+not_apart_text option.SkipInvalid =
+    codes "error: --skip-invalid FILE has to be a file of its own: not '-', none of those that are read, and not that of --report\n"
+
+abbrev pub not_empty_text : FileOption → List ℕ
+not_empty_text option.Report = codes "error: --report FILE is not empty: --append adds to it, and otherwise it has to be a new or an empty file\n"
+not_empty_text option.SkipInvalid = codes "error: --skip-invalid FILE is not empty: --append adds to it, and otherwise it has to be a new or an empty file\n"
+
+-- the message for a file that this option names
+abbrev pub report_file_text : FileOption → List ℕ → ReportFileFault → List ℕ
+report_file_text o name fault.Open = file_failed_text name (codes "create")
+report_file_text o name fault.Input = not_apart_text o
+report_file_text o name fault.Content = not_empty_text o
+report_file_text o name fault.Mend = file_failed_text name (codes "append")
+report_file_text o name fault.Memory = codes ""
 
 -- a file that the command line should not have named is a usage fault
 abbrev pub exit_of_report_file : ReportFileFault → Exit

@@ -21,3 +21,14 @@ named_count wanted names = count_by (λ name. bytes_eq name wanted) names
 abbrev pub stands_apart : Option (List ℕ) → List (List ℕ) → Bool
 stands_apart None names = true
 stands_apart (Some path) names = not (bytes_eq path standard_name) && (named_count path names == 0)
+
+-- whether a path, if there is one, is this
+abbrev pub is_given : List ℕ → Option (List ℕ) → Bool
+is_given name None = false
+is_given name (Some path) = bytes_eq path name
+
+-- whether the path for the lines of invalid operations is neither one of these, nor that of standard input, nor that for
+-- the reports
+abbrev pub leaves_apart : Option (List ℕ) → Option (List ℕ) → List (List ℕ) → Bool
+leaves_apart None report names = true
+leaves_apart (Some path) report names = stands_apart (Some path) names && not (is_given path report)

@@ -13,7 +13,8 @@ ghost use Rattle.relay_run.specs.ReportFile.{AreNewHandles};
 ghost use Rattle.relay_run.specs.Saving.{AreNew};
 ghost use Rattle.relay_run.specs.Wires.{AreNewWires};
 ghost use Rattle.relay_run.specs.Saying.{IsSaid, exit_of_finish, SaysSummary, Concludes};
-ghost use Rattle.relay_run.specs.Sources.{named_count, standard_name, stands_apart};
+ghost use Rattle.relay_run.specs.Sources.{is_given, leaves_apart, named_count, standard_name};
+ghost use Rattle.relay_run.specs.Sources.{stands_apart};
 ghost use Rattle.relay_run.specs.Outcomes.{start_fault_text, kind_name, finish_fault_text, total};
 ghost use Rattle.relay_run.specs.Outcomes.{reports_of, exit_of_reports, TellsOf};
 
@@ -21,29 +22,35 @@ use crate::faults::{FileFault, add_file_fault, exit_of_file, worse};
 use crate::feed::FeedFault;
 use crate::hint::say_hint;
 use crate::leasing::{config_of, say_no_epoch};
+use crate::noting::{Opened, SharedNote};
+use crate::opening::{make_readers, notes_of, open_files, whole_size};
 use crate::outcome::outcome_text;
-use crate::report_file::{ReportFileFault, ReportOut, handles_of, open_report, say_not_opened};
+use crate::report_file::{
+    FileOption, ReportFileFault, ReportOut, handles_of, open_report, say_not_opened,
+};
 use crate::resolving::{is_known, say_unknown};
 use crate::run::{Ran, run};
 use crate::saving::say_saved;
-use crate::source::{STANDARD_NAME, Source, count_named, open_source};
+use crate::skipping::{LeavingOut, say_left_out, sift_readers};
+use crate::source::{STANDARD_NAME, count_named};
 use crate::stopping::{SharedStop, Stop, reason_of_stop, reason_said, say_stopped, were_cut};
 use crate::telling::{SavingTell, make_tells};
 use crate::ticking::SleepPace;
-use crate::watching::{counters_of, share, start_watch, stop_watch};
-use relay_action::{ByteOut, DocKey, StdStream, write_all};
+use crate::watching::{Counters, counters_of, share, start_watch, stop_watch};
+use relay_action::{ByteIn, ByteOut, DocKey, write_all};
 use relay_core::Report;
 use relay_http::is_host;
 use relay_lane::RelayConfig;
 use relay_net::{PatientDial, TcpDial, TimedDial, TimedStream};
-use relay_progress::{CountedDial, CountedReader, CountedWire, Shared, Show};
+use relay_progress::{CountedDial, CountedWire, Log, Shared, Show};
+use relay_sift::{SharedNotes, SiftNotes};
 use relay_threads::{FinishFault, FinishFaultKind, LaneSummary, StartFault, Summary};
 use relay_wires::{HttpWire, Unknown};
 use relay_words::{Exit, add_number};
 use std::alloc::{AllocError, Global};
-use std::io::{ErrorKind, IsTerminal};
+use std::io::IsTerminal;
 use std::net::TcpStream;
-use std::sync::Wait;
+use std::sync::{Arc, Wait};
 use std::thread::Threads;
 use std::time::Clock;
 
@@ -69,12 +76,17 @@ pub struct RunOptions {
     pub patience: u32,
     /// The path of the file in which the reports are saved, if they are.
     pub report: Option<String>,
-    /// Whether the reports are added to what that file has. Otherwise it has to be empty, or absent.
+    /// The path of the file to which the lines of invalid operations go, if these are left out.
+    pub skip_invalid: Option<String>,
+    /// Whether the reports, and the lines of invalid operations, are added to what their files have.
+    /// Otherwise these have to be empty, or absent.
     pub append: bool,
     /// How many operations may be reported before no more is read; 0 means any number.
     pub max_reports: u32,
     /// Whether to show on standard error how far the run has got.
     pub progress: bool,
+    /// What is said on standard error of what goes wrong meanwhile.
+    pub log: Log,
 }
 
 impl RunOptions {
@@ -111,6 +123,29 @@ impl RunOptions {
             None => true,
         }
     }
+
+    /// Whether the path for the lines of invalid operations is neither one of the files that are
+    /// read, nor `-`, nor that for the reports.
+    pub fn leaves_apart(&self) -> bool
+        ensures { result ≡ leaves_apart (option_map string_bytes self.now.skip_invalid)
+            (option_map string_bytes self.now.report) (map string_bytes self.now.files.items) }
+    {
+        if let Some(path) = &self.skip_invalid {
+            is_apart_too(path.as_str(), &self.report, &self.files)
+        } else {
+            true
+        }
+    }
+}
+
+// Whether a path is given, and this one.
+fn is_name_of(path: &Option<String>, name: &str) -> bool
+    ensures { result ≡ is_given name.now (option_map string_bytes path.now) }
+{
+    match path {
+        Some(path) => path.as_str() == name,
+        None => false,
+    }
 }
 
 // Whether a path is neither that of another file nor `-`.
@@ -118,6 +153,14 @@ fn is_apart(path: &str, files: &[String]) -> bool
     ensures { result ≡ stands_apart (Some path.now) (map string_bytes files.now) }
 {
     path != STANDARD_NAME && count_named(files, path) == 0
+}
+
+// Whether a path is neither that of another file, nor `-`, nor this one.
+fn is_apart_too(path: &str, report: &Option<String>, files: &[String]) -> bool
+    ensures { result ≡ leaves_apart (Some path.now) (option_map string_bytes report.now)
+        (map string_bytes files.now) }
+{
+    is_apart(path, files) && !is_name_of(report, path)
 }
 
 /// A dial over TCP that waits for an index that is down, and limits the time of each message.
@@ -208,59 +251,6 @@ fn make_paces(
     Ok(paces)
 }
 
-// The files, or standard input for `-`; `None` for those that could not be opened.
-fn open_files(
-    rt: &HostRuntime,
-    alloc: Global,
-    files: &[String],
-) -> Result<Vec<Option<Source>>, AllocError>
-    ensures { IfOk result (λ v. vec_len v ≡ length files.now) }
-{
-    let mut sources = Vec::new(alloc);
-    for file in files {
-        match open_source(rt, alloc, file.as_str()) {
-            Ok(source) => sources.push(Some(source))?,
-            Err(error) if error.kind() == ErrorKind::OutOfMemory => return Err(AllocError),
-            Err(_) => sources.push(None)?,
-        }
-    }
-    Ok(sources)
-}
-
-// Their total size in bytes, if the size of each is known. A file that could not be opened counts
-// as empty.
-fn whole_size(sources: &[Option<Source>]) -> Option<u64> {
-    let mut size = 0u64;
-    for source in sources {
-        if let Some(source) = source {
-            size = size.saturating_add(source.size()?);
-        }
-    }
-    Some(size)
-}
-
-/// A counted reader of a file.
-type Reader = CountedReader<StdStream<Source>>;
-
-// A reader for each file that could be opened.
-fn make_readers(
-    alloc: Global,
-    sources: Vec<Option<Source>>,
-    counts: &Option<Shared>,
-) -> Result<Vec<Option<Reader>>, AllocError>
-    ensures { IfOk result (λ v. vec_len v ≡ vec_len sources) }
-{
-    let mut readers = Vec::new(alloc);
-    for source in sources {
-        let reader = match source {
-            Some(source) => Some(CountedReader::new(StdStream::new(source), share(counts)?)),
-            None => None,
-        };
-        readers.push(reader)?;
-    }
-    Ok(readers)
-}
-
 // For each file, whether it has a reader, that is, could be opened.
 fn are_opened<S>(alloc: Global, readers: &[Option<S>]) -> Result<Vec<bool>, AllocError>
     ensures { IfOk result (λ v. v.items ≡ map is_some readers.now) }
@@ -282,14 +272,45 @@ fn file_fault(opened: bool, stop: Option<FeedFault>) -> Option<FileFault>
     stop.map(FileFault::Feed)
 }
 
-// Adds the message for a file, if there is a fault.
-fn add_said(text: &mut Vec<u8>, file: &str, fault: Option<FileFault>) -> Result<(), AllocError>
-    ensures { OnOk result (text.new.items ≡ text.old.items ++ said_of file.now fault) }
+// Adds the message for a file, and what is said beneath it, if there is a fault.
+fn add_said(
+    text: &mut Vec<u8>,
+    file: &str,
+    fault: Option<FileFault>,
+    beneath: &[u8],
+) -> Result<(), AllocError>
+    ensures { OnOk result
+        (text.new.items ≡ text.old.items ++ said_of file.now fault beneath.now) }
 {
     match fault {
-        Some(fault) => add_file_fault(text, file, fault),
+        Some(fault) => {
+            add_file_fault(text, file, fault)?;
+            text.extend_from_slice(beneath)
+        }
         None => Ok(()),
     }
+}
+
+// What is said beneath the fault of each file; empty if there is none.
+fn beneath_of(
+    alloc: Global,
+    notes: &[SharedNote],
+    opened: &[bool],
+    stops: &[Option<FeedFault>],
+) -> Result<Vec<Vec<u8>>, AllocError>
+    requires opened { length opened.now ≡ length notes.now }
+    requires stops { length stops.now ≡ length notes.now }
+    ensures { IfOk result (λ v. vec_len v ≡ length notes.now) }
+{
+    let mut beneath = Vec::new(alloc);
+    for place in 0..notes.len() {
+        let line = match file_fault(opened[place], stops[place]) {
+            Some(fault) => notes[place].line(alloc, fault)?,
+            None => Vec::new(alloc),
+        };
+        beneath.push(line)?;
+    }
+    Ok(beneath)
 }
 
 // The exit status after the fault of a file, if there is one.
@@ -308,18 +329,26 @@ fn faults_text(
     files: &[String],
     opened: &[bool],
     stops: &[Option<FeedFault>],
+    beneath: &[Vec<u8>],
 ) -> Result<(Vec<u8>, Exit), AllocError>
     requires opened { length opened.now ≡ length files.now }
     requires stops { length stops.now ≡ length files.now }
+    requires beneath { length beneath.now ≡ length files.now }
     ensures text { IfOk result
-        (λ r. r.0.items ≡ faults_text (map string_bytes files.now) opened.now stops.now) }
+        (λ r. r.0.items ≡ faults_text (map string_bytes files.now) opened.now stops.now
+        (map (λ v. v.items) beneath.now)) }
     ensures exit { IfOk result (λ r. r.1 ≡ exit_of_files Exit.Done opened.now stops.now) }
 {
     let mut text = Vec::new(alloc);
     let mut exit = Exit::Done;
     for place in 0..files.len() {
         let fault = file_fault(opened[place], stops[place]);
-        add_said(&mut text, files[place].as_str(), fault)?;
+        add_said(
+            &mut text,
+            files[place].as_str(),
+            fault,
+            beneath[place].as_slice(),
+        )?;
         exit = worse_by(exit, fault);
     }
     Ok((text, exit))
@@ -488,14 +517,17 @@ fn conclude<W: Drop, F: ByteOut + Drop, O: ByteOut, E: ByteOut>(
     alloc: Global,
     files: &[String],
     opened: &[bool],
+    beneath: &[Vec<u8>],
     ran: Ran<W, F>,
     out: &mut O,
     err: &mut E,
 ) -> Result<(Exit, Vec<Report>), AllocError>
     requires opened { length opened.now ≡ length files.now }
     requires stops { vec_len ran.faults ≡ length files.now }
+    requires beneath { length beneath.now ≡ length files.now }
     ensures { IfOk result
-        (λ r. Concludes (faults_text (map string_bytes files.now) opened.now ran.faults.items)
+        (λ r. Concludes (faults_text (map string_bytes files.now) opened.now ran.faults.items
+        (map (λ v. v.items) beneath.now))
         (exit_of_files Exit.Done opened.now ran.faults.items) ran.end r.1.items
         (O.written out.old, O.failed out.old) (O.written out.new, O.failed out.new)
         (E.written err.old, E.failed err.old) (E.written err.new, E.failed err.new) r.0) }
@@ -506,7 +538,7 @@ fn conclude<W: Drop, F: ByteOut + Drop, O: ByteOut, E: ByteOut>(
         tells: _,
         unsaved: _,
     } = ran;
-    let (text, exit) = faults_text(alloc, files, opened, &faults)?;
+    let (text, exit) = faults_text(alloc, files, opened, &faults, beneath)?;
     let _ = say(err, &text);
     match end {
         Ok(summary) => say_summary(alloc, exit, summary, out, err),
@@ -517,11 +549,14 @@ fn conclude<W: Drop, F: ByteOut + Drop, O: ByteOut, E: ByteOut>(
     }
 }
 
-// What the lanes of a run tell by, and what may stop it.
+// What the lanes of a run tell by, what may stop it, and its counts.
 #[derive(Drop)]
 struct Telling {
     tells: Vec<SavingTell<ReportOut>>,
     stop: Option<SharedStop>,
+    counters: Counters,
+    // Where the lines of invalid operations go, if these are left out.
+    leaving: Option<LeavingOut<ReportOut>>,
 }
 
 // Runs the files over TCP with this config, and writes the outcome.
@@ -530,7 +565,7 @@ fn run_said<R, O, E>(
     host: HostRuntime,
     options: &RunOptions,
     config: RelayConfig,
-    sources: Vec<Option<Source>>,
+    sources: Vec<Opened>,
     telling: Telling,
     out: &mut O,
     err: &mut E,
@@ -545,31 +580,121 @@ where
     requires new { AreNew telling.tells.items }
 {
     let alloc = host.alloc();
-    let over = host.stderr().is_terminal();
-    let counters = counters_of(alloc, options.progress, over)?;
-    let wires = make_wires(host, alloc, options, &counters.dials)?;
-    let wires = count_wires(alloc, wires, &counters.all)?;
-    let paces = make_paces(host, alloc, options.config.lanes)?;
-    let size = whole_size(&sources);
-    let readers = make_readers(alloc, sources, &counters.all)?;
-    let opened = are_opened(alloc, &readers)?;
+    let Telling {
+        tells,
+        stop,
+        counters,
+        leaving,
+    } = telling;
     let show = Show {
         lines: options.progress,
-        over,
+        over: host.stderr().is_terminal(),
         address: String::from_str(alloc, options.to.as_str())?,
-        size,
+        size: whole_size(&sources),
+        log: options.log,
+        epoch: config.epoch,
+        lanes: config.lanes,
     };
+    let notes = notes_of(alloc, &sources)?;
+    let readers = make_readers(alloc, sources, &counters.readers)?;
+    let index = options.index.as_deref();
+    let telling = Lanes {
+        tells,
+        stop,
+        counters,
+        notes,
+    };
+    match leaving {
+        Some(leaving) => {
+            let left_out = Arc::try_clone(&leaving.notes)?;
+            let sifted = sift_readers(alloc, readers, leaving, index)?;
+            let exit = run_readers(rt, host, options, config, sifted, telling, show, out, err)?;
+            say_notes(alloc, options, exit, &left_out, err)
+        }
+        None => run_readers(rt, host, options, config, readers, telling, show, out, err),
+    }
+}
+
+// What the lanes of a run tell by, what may stop it, its counts, and what is known of each file.
+#[derive(Drop)]
+struct Lanes {
+    tells: Vec<SavingTell<ReportOut>>,
+    stop: Option<SharedStop>,
+    counters: Counters,
+    notes: Vec<SharedNote>,
+}
+
+// Runs these readers over TCP with this config, and writes the outcome.
+fn run_readers<R, S, O, E>(
+    rt: R,
+    host: HostRuntime,
+    options: &RunOptions,
+    config: RelayConfig,
+    readers: Vec<Option<S>>,
+    lanes: Lanes,
+    show: Show,
+    out: &mut O,
+    err: &mut E,
+) -> Result<Exit, AllocError>
+where
+    R: Threads + Wait + Clock + Copy + Send + 'static,
+    S: ByteIn + Drop + Send + 'static,
+    O: ByteOut,
+    E: ByteOut,
+    requires host { IsTrue (is_host (string_bytes options.now.to)) }
+    requires files { vec_len options.now.files ≡ config.producers }
+    requires readers { vec_len readers ≡ vec_len options.now.files }
+    requires notes { vec_len lanes.notes ≡ vec_len options.now.files }
+    requires new { AreNew lanes.tells.items }
+{
+    let alloc = host.alloc();
+    let Lanes {
+        tells,
+        stop,
+        counters,
+        notes,
+    } = lanes;
+    let wires = make_wires(host, alloc, options, &counters.dials)?;
+    let wires = count_wires(alloc, wires, &counters.wires)?;
+    let paces = make_paces(host, alloc, options.config.lanes)?;
+    let opened = are_opened(alloc, &readers)?;
     let watch = start_watch(rt, host, alloc, show, counters.dials)?;
     let index = options.index.as_deref();
-    let Telling { tells, stop } = telling;
     let ran = run(
         rt, alloc, config, wires, paces, tells, readers, index, &stop,
     );
     stop_watch(&rt, watch);
     match ran {
-        Ok(ran) => say_ran(alloc, options, config.epoch, &opened, ran, &stop, out, err),
+        Ok(ran) => say_ran(
+            alloc,
+            options,
+            config.epoch,
+            &opened,
+            &notes,
+            ran,
+            &stop,
+            out,
+            err,
+        ),
         Err(fault) => Ok(say_start(fault, err)),
     }
+}
+
+// Says how many operations were left out, and whether their lines could not be written.
+fn say_notes<E: ByteOut>(
+    alloc: Global,
+    options: &RunOptions,
+    exit: Exit,
+    notes: &SharedNotes,
+    err: &mut E,
+) -> Result<Exit, AllocError> {
+    let name = options.skip_invalid.as_deref().unwrap_or("");
+    let exit = say_left_out(alloc, exit, name, notes.left_out(), err)?;
+    let exit = say_saved(alloc, exit, name, notes.is_unwritten(), err)?;
+    if notes.is_refused() {
+        return Err(AllocError);
+    }
+    Ok(exit)
 }
 
 // Whether a lane of a relay that has ended like this has applied an operation.
@@ -591,12 +716,14 @@ fn say_ran<W: Drop, F: ByteOut + Drop, O: ByteOut, E: ByteOut>(
     options: &RunOptions,
     epoch: u32,
     opened: &[bool],
+    notes: &[SharedNote],
     ran: Ran<W, F>,
     stop: &Option<SharedStop>,
     out: &mut O,
     err: &mut E,
 ) -> Result<Exit, AllocError>
     requires opened { length opened.now ≡ vec_len options.now.files }
+    requires notes { length notes.now ≡ vec_len options.now.files }
     requires stops { vec_len ran.faults ≡ vec_len options.now.files }
 {
     let unsaved = ran.unsaved;
@@ -605,7 +732,8 @@ fn say_ran<W: Drop, F: ByteOut + Drop, O: ByteOut, E: ByteOut>(
         were_cut(&ran.faults),
         has_applied(&ran.end),
     );
-    let (exit, reports) = conclude(alloc, &options.files, opened, ran, out, err)?;
+    let beneath = beneath_of(alloc, notes, opened, &ran.faults)?;
+    let (exit, reports) = conclude(alloc, &options.files, opened, &beneath, ran, out, err)?;
     let exit = match reason {
         Some(reason) => say_stopped(alloc, exit, options.max_reports as u64, reason, err)?,
         None => exit,
@@ -675,7 +803,37 @@ fn open_handles(
     handles_of(alloc, &file, options.config.lanes)
 }
 
-// Looks up the address, opens the file for the reports, if asked for, and does the same.
+// The paths that the file for invalid operations may not be: those that are read, and that for the
+// reports.
+fn taken_paths(alloc: Global, options: &RunOptions) -> Result<Vec<String>, AllocError> {
+    let mut paths = Vec::new(alloc);
+    for path in &options.files {
+        paths.push(String::from_str(alloc, path.as_str())?)?;
+    }
+    if let Some(path) = &options.report {
+        paths.push(String::from_str(alloc, path.as_str())?)?;
+    }
+    Ok(paths)
+}
+
+// Opens the file for the lines of invalid operations, if these are left out, with a handle for each
+// file that is read.
+fn open_leaving(
+    host: &HostRuntime,
+    alloc: Global,
+    options: &RunOptions,
+) -> Result<Option<LeavingOut<ReportOut>>, ReportFileFault> {
+    let Some(name) = &options.skip_invalid else {
+        return Ok(None);
+    };
+    let paths = taken_paths(alloc, options)?;
+    let file = Some(open_report(host, alloc, name.as_str(), options.append, &paths)?);
+    let files = handles_of(alloc, &file, options.config.producers)?;
+    let notes = SiftNotes::shared(alloc)?;
+    Ok(Some(LeavingOut { files, notes }))
+}
+
+// Looks up the address, opens the files to write, if asked for, and does the same.
 fn run_all<R, O, E>(
     rt: R,
     host: HostRuntime,
@@ -698,25 +856,43 @@ where
         Ok(handles) => handles,
         Err(fault) => {
             let name = options.report.as_deref().unwrap_or("");
-            return say_not_opened(alloc, name, fault, err);
+            return say_not_opened(alloc, FileOption::Report, name, fault, err);
         }
     };
-    let stop = Some(Stop::shared(alloc, options.max_reports as u64)?);
+    let leaving = match open_leaving(&host, alloc, options) {
+        Ok(leaving) => leaving,
+        Err(fault) => {
+            let name = options.skip_invalid.as_deref().unwrap_or("");
+            return say_not_opened(alloc, FileOption::SkipInvalid, name, fault, err);
+        }
+    };
+    let terminal = host.stderr().is_terminal();
+    let counters = counters_of(alloc, options.progress, options.log, terminal)?;
+    let conflicts = share(&counters.wires)?;
+    let stop = Some(Stop::shared(alloc, options.max_reports as u64, conflicts)?);
     let tells = make_tells(alloc, handles, &stop)?;
-    run_in_epoch(rt, host, options, Telling { tells, stop }, out, err)
+    let telling = Telling {
+        tells,
+        stop,
+        counters,
+        leaving,
+    };
+    run_in_epoch(rt, host, options, telling, out, err)
 }
 
 /// Writes the operations of the files to the index, each file with its own producer (`-` is
 /// standard input), and writes the outcome: on `err` a line for each file that was not put in full,
-/// in order, and for a lane that did not finish; on `out` a line for each operation that could not
+/// in order, with the system's reason or what the line is about beneath it, and for a lane that did
+/// not finish; on `out` a line for each operation that could not
 /// be settled, by producer and number, and how many were applied, already applied and reported.
 /// First the host of the address is looked up, within the patience, and if it is unknown, `err` gets
 /// a line, nothing is put, and the exit status is `Device`. If asked for, the reports are also
 /// saved, each as soon as it arises: the file for them is opened next, and if it cannot be, nothing
 /// is put. Then the files are opened. If the epoch is taken from the index, that comes next; if there is none, `err`
 /// gets a line that says why, nothing is put, and the exit status is `Device`, or `Memory`. If
-/// progress is asked for, standard error shows meanwhile how far the run has got, and when no
-/// connection can be made; a terminal shows the latter in any case.
+/// progress is asked for, standard error shows meanwhile how far the run has got, and by the log what
+/// goes wrong; without a log it shows with the progress, or on a terminal, when no connection can be
+/// made.
 ///
 /// A run stops reading once as many operations were reported as may be, or once a whole request got
 /// a status by which all more is in vain before anything was applied; what was put by then is
@@ -738,7 +914,10 @@ where
     O: ByteOut,
     E: ByteOut,
 {
-    if !options.is_valid() || !options.reads_input_once() || !options.saves_apart() {
+    if !options.is_valid() || !options.reads_input_once() {
+        return Exit::Usage;
+    }
+    if !options.saves_apart() || !options.leaves_apart() {
         return Exit::Usage;
     }
     match run_all(rt, host, options, out, err) {

@@ -1,6 +1,7 @@
 //! Opening the file in which the reports of a run are saved.
 ghost use Rattle.std.specs.Prelude.{◌≡◌, IfOk, OnOk, vec_len};
-ghost use Rattle.relay_run.specs.ReportFile.{AreNewHandles, exit_of_report_file, report_file_text};
+ghost use Rattle.relay_run.specs.ReportFile.{AreNewHandles, exit_of_report_file, not_apart_text};
+ghost use Rattle.relay_run.specs.ReportFile.{not_empty_text, report_file_text};
 ghost use Rattle.relay_run.specs.Saying.{IsSaid};
 
 use crate::files::say;
@@ -24,7 +25,42 @@ pub const NOT_APART: &str =
 pub const NOT_EMPTY: &str =
     "error: --report FILE is not empty: --append adds to it, and otherwise it has to be a new or an empty file\n";
 
-/// Why the file for the reports was not opened.
+/// The line about a file for invalid operations that is read, or takes the reports.
+pub const NOT_APART_LEFT_OUT: &str =
+    "error: --skip-invalid FILE has to be a file of its own: not '-', none of those that are read, and not that of --report\n";
+
+/// The line about a file for invalid operations that is not empty.
+pub const NOT_EMPTY_LEFT_OUT: &str =
+    "error: --skip-invalid FILE is not empty: --append adds to it, and otherwise it has to be a new or an empty file\n";
+
+/// An option that names a file to write.
+#[derive(Clone, Copy, Debug, PartialEq, Eq)]
+pub(crate) enum FileOption {
+    /// `--report`.
+    Report,
+    /// `--skip-invalid`.
+    SkipInvalid,
+}
+
+fn not_apart(option: FileOption) -> &'static str
+    ensures { result.now ≡ not_apart_text option }
+{
+    match option {
+        FileOption::Report => NOT_APART,
+        FileOption::SkipInvalid => NOT_APART_LEFT_OUT,
+    }
+}
+
+fn not_empty(option: FileOption) -> &'static str
+    ensures { result.now ≡ not_empty_text option }
+{
+    match option {
+        FileOption::Report => NOT_EMPTY,
+        FileOption::SkipInvalid => NOT_EMPTY_LEFT_OUT,
+    }
+}
+
+/// Why the file for the reports, or for invalid operations, was not opened.
 #[derive(Clone, Copy, Debug, PartialEq, Eq)]
 pub(crate) enum ReportFileFault {
     /// The system does not open or create it, or does not say what it is.
@@ -197,23 +233,24 @@ fn end_of(alloc: Global, file: &mut File, start: u64) -> Result<Vec<u8>, ReportF
     }
 }
 
-/// Writes why the file with this name was not opened for the reports, and returns the exit status.
-/// `AllocError`: an allocation failed, here or before.
+/// Writes why the file with this name, which this option names, was not opened, and returns the exit
+/// status. `AllocError`: an allocation failed, here or before.
 pub(crate) fn say_not_opened<E: ByteOut>(
     alloc: Global,
+    option: FileOption,
     name: &str,
     fault: ReportFileFault,
     err: &mut E,
 ) -> Result<Exit, AllocError>
-    ensures said { OnOk result (IsSaid (report_file_text name.now fault)
+    ensures said { OnOk result (IsSaid (report_file_text option name.now fault)
         (E.written err.old, E.failed err.old) (E.written err.new, E.failed err.new)) }
     ensures exit { IfOk result (λ end. end ≡ exit_of_report_file fault) }
 {
     match fault {
         ReportFileFault::Open => say_failed(alloc, name, b"create", err),
         ReportFileFault::Mend => say_failed(alloc, name, b"append", err),
-        ReportFileFault::Input => Ok(say_usage(NOT_APART, err)),
-        ReportFileFault::Content => Ok(say_usage(NOT_EMPTY, err)),
+        ReportFileFault::Input => Ok(say_usage(not_apart(option), err)),
+        ReportFileFault::Content => Ok(say_usage(not_empty(option), err)),
         ReportFileFault::Memory => Err(AllocError),
     }
 }

@@ -10,6 +10,7 @@ use crate::feed::FeedFault;
 use crate::files::say;
 use relay_action::ByteOut;
 use relay_core::Cause;
+use relay_progress::Shared;
 use relay_words::{Exit, add_number};
 use std::alloc::{AllocError, Global};
 use std::sync::Arc;
@@ -38,24 +39,31 @@ pub struct Stop {
     applied: AtomicU64,
     // The code of the reason, or 0.
     reason: AtomicU64,
+    // Where conflicts are counted, if they are.
+    counts: Option<Shared>,
 }
 
 /// A stop that several threads hold.
 pub type SharedStop = Arc<Stop, Global>;
 
 impl Stop {
-    /// Stops once `limit` operations were reported; 0 means any number. `AllocError`: allocation
-    /// failed.
-    pub fn shared(alloc: Global, limit: u64) -> Result<SharedStop, AllocError> {
-        Ok(Arc::new(alloc, Stop::new(limit))?)
+    /// Stops once `limit` operations were reported; 0 means any number. Conflicts among them are noted
+    /// in these counts, if there are any. `AllocError`: allocation failed.
+    pub fn shared(
+        alloc: Global,
+        limit: u64,
+        counts: Option<Shared>,
+    ) -> Result<SharedStop, AllocError> {
+        Ok(Arc::new(alloc, Stop::new(limit, counts))?)
     }
 
-    fn new(limit: u64) -> Stop {
+    fn new(limit: u64, counts: Option<Shared>) -> Stop {
         Stop {
             limit,
             reported: AtomicU64::new(0),
             applied: AtomicU64::new(0),
             reason: AtomicU64::new(0),
+            counts,
         }
     }
 
@@ -68,6 +76,9 @@ impl Stop {
 
     /// Tells of an operation that is reported with this cause.
     pub fn tell_reported(&self, cause: &Cause) {
+        if let (Some(counts), Cause::Conflict { .. }) = (&self.counts, cause) {
+            counts.note_conflict();
+        }
         let reported = self
             .reported
             .fetch_add(1, Ordering::SeqCst)

@@ -1,39 +1,50 @@
 //! Showing the progress of a run while it works, in a separate thread.
 use crossbeam_channel::{Receiver, Sender, bounded};
 use relay_action::StdStream;
-use relay_progress::{Counts, Shared, Show, show_progress};
+use relay_progress::{Counts, Log, Shared, Show, show_progress};
 use std::alloc::{AllocError, Global};
 use std::sync::{Arc, Wait};
 use std::thread;
 use std::thread::{JoinHandle, Threads};
 use std::time::Clock;
 
-/// The counts of a run.
+/// The counts of a run, all of them the same.
 #[derive(Drop)]
 pub(crate) struct Counters {
-    /// Readers and wires, if they are counted.
-    pub all: Option<Shared>,
-    /// Dials, if they are watched: the same counts.
+    /// Those of the readers, if they are counted.
+    pub readers: Option<Shared>,
+    /// Those of the wires, and of the conflicts, if they are counted.
+    pub wires: Option<Shared>,
+    /// Those of the dials, if they are watched.
     pub dials: Option<Shared>,
 }
 
-/// The counts of a run: of everything if its progress is shown, otherwise of its dials alone on a
-/// terminal, where trouble is always shown, and of nothing elsewhere. `AllocError`: allocation
-/// failed.
+/// The counts of a run: of everything if its progress is shown, of all but its readers if there is a
+/// log, otherwise of its dials alone on a terminal, where trouble is always shown, and of nothing
+/// elsewhere. `AllocError`: allocation failed.
 pub(crate) fn counters_of(
     alloc: Global,
     progress: bool,
+    log: Log,
     terminal: bool,
 ) -> Result<Counters, AllocError> {
-    if !progress && !terminal {
-        return Ok(Counters {
-            all: None,
-            dials: None,
-        });
-    }
-    let dials = Some(Counts::shared(alloc)?);
-    let all = if progress { share(&dials)? } else { None };
-    Ok(Counters { all, dials })
+    let logs = log != Log::None;
+    let counts = if progress || logs || terminal {
+        Some(Counts::shared(alloc)?)
+    } else {
+        None
+    };
+    let readers = if progress { share(&counts)? } else { None };
+    let wires = if progress || logs {
+        share(&counts)?
+    } else {
+        None
+    };
+    Ok(Counters {
+        readers,
+        wires,
+        dials: counts,
+    })
 }
 
 /// Another handle of the same counts. `AllocError`: there are too many handles.

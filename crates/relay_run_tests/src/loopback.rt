@@ -5,6 +5,7 @@ use relay_fixtures::config;
 use relay_fixtures::config::LIMITS;
 use relay_index::{Index, Script};
 use relay_net::TcpListen;
+use relay_progress::Log;
 use relay_run::files::{RunOptions, run_files};
 use relay_run::run::{Limits, RelayConfig};
 use relay_stub::stub_serve;
@@ -114,7 +115,9 @@ fn options<R: Files>(rt: &R, alloc: Global, to: String) -> Option<RunOptions> {
         append: false,
         max_reports: 0,
         report: None,
+        skip_invalid: None,
         progress: false,
+        log: Log::None,
     })
 }
 

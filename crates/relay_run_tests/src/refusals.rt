@@ -18,6 +18,7 @@ use relay_run::hint::say_hint;
 use relay_run::outcome::outcome_text;
 use relay_run::run::{Ran, run};
 use relay_run::saving::say_saved;
+use relay_run::skipping::say_left_out;
 use relay_run::stopping::{StopReason, say_stopped};
 use relay_run::telling::{SavingTell, make_tells};
 use relay_run::ticking::SleepPace;
@@ -246,6 +247,31 @@ fn says_stop(alloc: Global) -> Option<bool> {
 #[test]
 fn refused_stop_line(rt: HostRuntime) {
     assert!(rt; says_stop(rt.alloc()) == Some(true));
+}
+
+const LEFT_OUT: &[u8] =
+    b"a file of more than thirty-eight bytes, or so: invalid operations left out: 7\n";
+
+// Says how many operations were left out.
+fn says_left_out(alloc: Global) -> Option<bool> {
+    let name = "a file of more than thirty-eight bytes, or so";
+    let mut err = MemStream::new(alloc, Vec::new(alloc), 1000, 1000, 0).ok()?;
+    let exit = match say_left_out(alloc, Exit::Done, name, 7, &mut err) {
+        Ok(exit) => exit,
+        Err(AllocError) => {
+            if !err.written().is_empty() {
+                return Some(false);
+            }
+            say_left_out(alloc, Exit::Done, name, 7, &mut err).ok()?
+        }
+    };
+    Some(exit == Exit::Reported && err.written() == LEFT_OUT)
+}
+
+#[test]
+fn refused_left_out(rt: HostRuntime) {
+    let first = says_left_out(rt.alloc());
+    assert!(rt; first == Some(true) || says_left_out(rt.alloc()) == Some(true));
 }
 
 const INPUT: &[u8] =

@@ -1,11 +1,12 @@
 //! `relay lines`.
-use crate::report::usage;
+use crate::report::{out_of_memory, usage};
 use clap::builder::ValueParser;
 use clap::{Arg, ArgAction, ArgMatches, Command};
-use relay_action::StdStream;
+use relay_action::{ByteIn, ByteOut, StdStream};
 use relay_commands::exit::exit_of;
 use relay_commands::lines::{LinesFault, lines};
 use relay_ndjson::{LAST_VERSION, LineKind};
+use relay_sift::{CheckFault, check};
 use relay_words::Exit;
 use std::alloc::{AllocError, Global};
 use std::io;
@@ -23,8 +24,9 @@ the versions N, N+1 and so on; each line is written as soon as reading on would 
     relay lines --index books < ops.ndjson > bulk.ndjson
 
 At the first fault the command writes `line N: KIND` to standard error and ends with status 2; the lines
-of all operations before it have been written. The exit status is 3 if a read or write fails, and 4 if
-memory runs out. The kinds of faults, for an action line in this order:
+of all operations before it have been written. With --check it lists all faults instead, on standard
+output. The exit status is 3 if a read or write fails, and 4 if memory runs out. The kinds of faults, for
+an action line in this order:
 
     LineLong           more than 1114112 bytes, or 65537 consecutive blank lines
     NotJson            not UTF-8, not JSON on one line, or nested more than 127 deep
@@ -46,6 +48,11 @@ const INDEX_HELP: &str =
 
 const FIRST_HELP: &str = "The version of the first operation, from 1 to 9000000000000000000";
 
+const CHECK: &str = "check";
+
+const CHECK_HELP: &str =
+    "Write the faults of the input to standard output, and no bulk lines: `line N: KIND` for each invalid operation, and beneath it what it is about, if that has a name; it ends with status 2 if there are any";
+
 /// Its help and its options.
 pub fn command<'a>(alloc: Global, name: &'static str) -> Result<Command<'a>, AllocError> {
     let index = Arg::new(alloc, "index")
@@ -60,11 +67,16 @@ pub fn command<'a>(alloc: Global, name: &'static str) -> Result<Command<'a>, All
         .value_parser(ValueParser::unsigned(1, LAST_VERSION))
         .default_value("1")
         .help(FIRST_HELP);
+    let check = Arg::new(alloc, CHECK)
+        .long(CHECK)
+        .action(ArgAction::SetTrue)
+        .help(CHECK_HELP);
     Command::new(alloc, name)
         .about(ABOUT)
         .long_about(LONG_ABOUT)
         .arg(index)?
-        .arg(first)
+        .arg(first)?
+        .arg(check)
 }
 
 /// Runs it over standard input and output.
@@ -76,10 +88,31 @@ pub fn execute<R: Input + Print + Eprint + AllocGlobal>(rt: &R, matches: &ArgMat
     let mut reader = StdStream::new(rt.reader());
     let mut writer = StdStream::new(io::writer(rt));
     let index = matches.get_str("index");
+    if matches.get_flag(CHECK) {
+        return check_input(rt, &mut reader, &mut writer, index);
+    }
     match lines(rt.alloc(), &mut reader, &mut writer, index, first) {
         Ok(_) => Exit::Done,
         Err(fault) => report(rt, fault),
     }
+}
+
+// Lists the faults of the input.
+fn check_input<R: Eprint + AllocGlobal, S: ByteIn, W: ByteOut>(
+    rt: &R,
+    reader: &mut S,
+    writer: &mut W,
+    index: Option<&str>,
+) -> Exit {
+    let failed = match check(rt.alloc(), reader, index, writer) {
+        Ok(0) => return Exit::Done,
+        Ok(_) => return Exit::Input,
+        Err(CheckFault::Memory) => return out_of_memory(rt),
+        Err(CheckFault::Read | CheckFault::Endless) => "read failed",
+        Err(CheckFault::Write) => "write failed",
+    };
+    let _ = rt.eprintln(failed);
+    Exit::Device
 }
 
 // Prints the fault. If that fails, the exit status is the same.

@@ -7,8 +7,9 @@ use relay_core::config::{
     ATTEMPT_LIMIT, BYTES_LEAST, BYTES_LIMIT, CAPACITY_LIMIT, COUNT_LIMIT, DEAL_LIMIT, EPOCH_LIMIT,
     FLYING_LIMIT, HELD_LIMIT, LANE_LIMIT, LINGER_LIMIT,
 };
+use relay_progress::Log;
 use relay_run::files::{RunOptions, run_files};
-use relay_run::report_file::NOT_APART;
+use relay_run::report_file::{NOT_APART, NOT_APART_LEFT_OUT};
 use relay_run::run::{Limits, RelayConfig};
 use relay_run::ticking::TICK;
 use relay_target::{AddressFault, read_address, read_name};
@@ -51,8 +52,21 @@ A counts the operations that an answered request applied, and B those that an ea
 was lost, had already applied. An operation that is reported may still have been applied, once and in order.
 Standard error gets a line for each file that could not be put in full, once all have ended:
 `FILE: open failed`, `FILE: read failed`, `FILE: out of memory`, `FILE: line N: KIND` or `FILE: NumbersSpent`;
-its operations before that were put. `lane N: KIND` means that a lane did not finish, and `start: KIND` that
-nothing was started.
+its operations before that were put. Beneath it a line with two blanks before it has the system's reason, or what
+the line is about, such as `the member routing is not supported`. `lane N: KIND` means that a lane did not finish,
+and `start: KIND` that nothing was started.
+
+What goes wrong meanwhile is written to standard error as it happens, each on a line with the time in UTC and the
+address. `down` and `up again`, and `conflicts`, come at most once in 10 s each; `refused` comes once for each type
+of error and each status of a whole request, and `too large` once. --log events adds the start and the end of the
+run, and --log none leaves all of them out.
+
+    2026-11-27T19:44:44Z 127.0.0.1:9200: down: connection refused
+    2026-11-27T19:45:04Z 127.0.0.1:9200: up again after 20.1 s, sends 9
+    2026-11-27T19:45:10Z 127.0.0.1:9200: refused: 400 mapper_parsing_exception
+    2026-11-27T19:45:10Z 127.0.0.1:9200: refused: 429 for a whole request
+    2026-11-27T19:45:11Z 127.0.0.1:9200: too large: a request got 413, and is sent again in halves
+    2026-11-27T19:45:12Z 127.0.0.1:9200: conflicts: 3
 
 With --report FILE the reports are also saved, each as soon as it arises, so that a run that is killed leaves
 those that it had. The file has one JSON object per line, in no particular order: cause, id, index, number and
@@ -62,9 +76,13 @@ cuts off a line that an earlier run left torn. `FILE: create failed` and `FILE: 
 file could not be opened or mended, and then nothing was put; `FILE: write failed`, at the end,
 that a report could not be written.
 
+With --skip-invalid FILE invalid operations are left out, as long as their action lines tell which lines belong to
+them, and these lines are written to FILE, each time after a line {\"invalid\":..} that says what is wrong where.
+At the end standard error gets `FILE: invalid operations left out: N`.
+
 The exit status is 0 on success, 1 if the command line is invalid, 2 if a line of a file is, 3 if a file, an
-output or a lane's thread failed, 4 if memory ran out, and 5 if operations were reported; if several apply,
-the first of 4, 3, 2 and 5.
+output or a lane's thread failed, 4 if memory ran out, and 5 if operations were reported or left out; if several
+apply, the first of 4, 3, 2 and 5.
 
 A run takes no more input once --max-reports operations were reported, and if the index answers a whole request
 with 401, 403, 404 or 3xx before it has applied anything. What was read by then is delivered or reported, and
@@ -82,7 +100,7 @@ that long before it fails, so an index that is back by then costs only the attem
 flight when it went down.
 
 A lane holds at most --held operations, and --capacity more wait in front of it, each with its document of up
-to 1048576 bytes and less than 2 KB more: at most 1.4 GB per lane with the defaults, and 4 MB if documents
+to 1048576 bytes and less than 2 KB more: at most 4.6 GB per lane with the defaults, and 13 MB if documents
 have 1 KB. A --capacity below twice --count is slower, since the next request is then not ready when one is
 answered. Reports are kept in memory until the end: a run that is killed prints none.
 
@@ -114,6 +132,12 @@ const COUNTER: &str = "epoch-from";
 
 const COUNTER_HELP: &str =
     "Take the epoch from the index: write this document, which no other program may write with a version of its own and nobody may delete, and use the version that the index gives it; INDEX ends at the first slash [default: none, so --epoch applies]";
+
+// The option for what is said while a run goes on.
+const LOG: &str = "log";
+
+const LOG_HELP: &str =
+    "What to write to standard error while the run goes on: errors (what goes wrong: the index is down, why, and up again; the first refusal of each type; the first 413; conflicts), events (these, and the start and the end of the run) or none";
 
 // The maximum number of files.
 const FILE_LIMIT: usize = 16;
@@ -154,7 +178,7 @@ const NUMBERS: &[NumberOption] = &[
         name: "held",
         least: 1,
         most: HELD_LIMIT as u64,
-        default: "1024",
+        default: "4096",
         help: "Maximum number of operations that a lane holds, sent or still to be sent, 1 to 65536",
     },
     NumberOption {
@@ -279,21 +303,40 @@ fn with_outputs<'a>(alloc: Global, command: Command<'a>) -> Result<Command<'a>, 
         .help(
             "Save what could not be settled to this file as NDJSON, one object per line; it is opened before anything is put, has to be new or empty, and is written as they arise",
         );
+    let skip_invalid = Arg::new(alloc, "skip-invalid")
+        .long("skip-invalid")
+        .value_name("FILE")
+        .action(ArgAction::Set)
+        .help(
+            "Leave out invalid operations, and write their lines to this file, each after a line that says what is wrong; it has to be new or empty, and the run ends with status 5 if any were left out [default: none, so a file is read up to its first fault]",
+        );
     let append = Arg::new(alloc, "append")
         .long("append")
         .action(ArgAction::SetTrue)
         .requires_arg("report")?
         .help(
-            "Add to what the file of --report has; a line that an earlier run left torn is cut off",
+            "Add to what the files of --report and --skip-invalid have; a line that an earlier run left torn is cut off",
         );
     let progress = Arg::new(alloc, "progress")
         .long("progress")
         .action(ArgAction::SetTrue)
         .help(
-            "Show progress on standard error every second, and a message as soon as no connection can be made; a terminal gets these messages without this option too",
+            "Show progress on standard error every second; a terminal gets each line over the one before",
         );
+    let log = Arg::new(alloc, LOG)
+        .long(LOG)
+        .value_name("WHAT")
+        .action(ArgAction::Set)
+        .default_value("errors")
+        .help(LOG_HELP);
     let limit = number(alloc, &MAX_REPORTS);
-    command.arg(report)?.arg(append)?.arg(limit)?.arg(progress)
+    command
+        .arg(report)?
+        .arg(skip_invalid)?
+        .arg(append)?
+        .arg(limit)?
+        .arg(log)?
+        .arg(progress)
 }
 
 /// Its help and its options.
@@ -414,6 +457,7 @@ fn options_of(
     }
     let index = own_text(alloc, matches, "index")?;
     let report = own_text(alloc, matches, "report")?;
+    let skip_invalid = own_text(alloc, matches, "skip-invalid")?;
     let config = RelayConfig {
         lanes: number_of(matches, "lanes"),
         producers: u32::try_from(files.len()).unwrap_or(u32::MAX),
@@ -438,10 +482,22 @@ fn options_of(
         timeout: durations.timeout,
         patience: durations.patience,
         report,
+        skip_invalid,
         append: matches.get_flag("append"),
         max_reports: number_of(matches, "max-reports"),
         progress: matches.get_flag("progress"),
+        log: Log::Errors,
     })
+}
+
+// What to say while a run goes on. `None`: the value of the option is none of the three.
+fn log_of(matches: &ArgMatches<'_>) -> Option<Log> {
+    match matches.get_str(LOG) {
+        Some("none") => Some(Log::None),
+        Some("errors") | None => Some(Log::Errors),
+        Some("events") => Some(Log::Events),
+        Some(_) => None,
+    }
 }
 
 // What is said of an address that is none.
@@ -486,6 +542,10 @@ where
         }
         Err(_) => return out_of_memory(rt),
     }
+    match log_of(matches) {
+        Some(log) => options.log = log,
+        None => return usage(rt, "error: --log WHAT has to be errors, events or none"),
+    }
     if !options.is_valid() {
         return usage(
             rt,
@@ -500,6 +560,9 @@ where
     }
     if !options.saves_apart() {
         return usage(rt, NOT_APART.trim_end());
+    }
+    if !options.leaves_apart() {
+        return usage(rt, NOT_APART_LEFT_OUT.trim_end());
     }
     let mut out = StdStream::new(io::writer(rt));
     let mut err = StdStream::new(host.stderr());

@@ -1,0 +1,89 @@
+//! Opening the files of a run.
+ghost use Rattle.std.specs.Prelude.{◌≡◌, IfOk, length, vec_len};
+
+use crate::noting::{FileNote, NotedSource, Opened, SharedNote};
+use crate::source::open_source;
+use crate::watching::share;
+use relay_action::StdStream;
+use relay_progress::{CountedReader, Shared};
+use std::alloc::{AllocError, Global};
+use std::io::ErrorKind;
+use std::sync::Arc;
+
+// Opens the file with this name, or standard input for `-`.
+fn open_file(rt: &HostRuntime, alloc: Global, file: &str) -> Result<Opened, AllocError> {
+    let note = FileNote::shared(alloc)?;
+    let source = match open_source(rt, alloc, file) {
+        Ok(source) => Some(NotedSource::new(source, Arc::try_clone(&note)?)),
+        Err(error) if error.kind() == ErrorKind::OutOfMemory => return Err(AllocError),
+        Err(error) => {
+            note.fail(error.kind());
+            None
+        }
+    };
+    Ok(Opened { source, note })
+}
+
+/// Opens the files, or standard input for `-`. `AllocError`: allocation failed.
+pub(crate) fn open_files(
+    rt: &HostRuntime,
+    alloc: Global,
+    files: &[String],
+) -> Result<Vec<Opened>, AllocError>
+    ensures { IfOk result (λ v. vec_len v ≡ length files.now) }
+{
+    let mut sources = Vec::new(alloc);
+    for file in files {
+        sources.push(open_file(rt, alloc, file.as_str())?)?;
+    }
+    Ok(sources)
+}
+
+/// Their total size in bytes, if the size of each is known. A file that could not be opened counts
+/// as empty.
+pub(crate) fn whole_size(sources: &[Opened]) -> Option<u64> {
+    let mut size = 0u64;
+    for opened in sources {
+        if let Some(source) = &opened.source {
+            size = size.saturating_add(source.size()?);
+        }
+    }
+    Some(size)
+}
+
+/// What is known of each of them. `AllocError`: there are too many handles.
+pub(crate) fn notes_of(alloc: Global, sources: &[Opened]) -> Result<Vec<SharedNote>, AllocError>
+    ensures { IfOk result (λ v. vec_len v ≡ length sources.now) }
+{
+    let mut notes = Vec::new(alloc);
+    for opened in sources {
+        notes.push(Arc::try_clone(&opened.note)?)?;
+    }
+    Ok(notes)
+}
+
+/// A counted reader of a file.
+pub(crate) type Reader = CountedReader<StdStream<NotedSource>>;
+
+/// A reader for each file that could be opened. `AllocError`: allocation failed.
+pub(crate) fn make_readers(
+    alloc: Global,
+    sources: Vec<Opened>,
+    counts: &Option<Shared>,
+) -> Result<Vec<Option<Reader>>, AllocError>
+    ensures { IfOk result (λ v. vec_len v ≡ vec_len sources) }
+{
+    let mut readers = Vec::new(alloc);
+    for opened in sources {
+        let Opened {
+            source,
+            note: _note,
+        } = opened;
+        let reader = match source {
+            Some(source) => Some(CountedReader::new(StdStream::new(source), share(counts)?)),
+            None => None,
+        };
+        readers.push(reader)?;
+    }
+    Ok(readers)
+}
