@@ -22,6 +22,7 @@ HOMES = {
         "the lane of a document": "Lanes",
     }),
     "relay_batch": ("Batches", {}),
+    "relay_clock": (RUN, {}),
     "relay_commands": (LINES, {
         "which calls of the streams failed": (LINES, APPLY),
         "what `relay apply` reads": APPLY,
@@ -91,6 +92,7 @@ HOMES = {
         "a body has only one list": BODIES,
     }),
     "relay_net": (RUN, {"accepted connections": STUB}),
+    "relay_pace": (RUN, {}),
     "relay_producer": (RUN, {}),
     "relay_progress": (RUN, {}),
     "relay_queue": (RUN, {}),

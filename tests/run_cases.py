@@ -337,8 +337,8 @@ def memory():
         for count in (20_000, 100_000):
             path = written(folder, 0, operations(0, count, count))
             server = Server()
-            # The lane fills up in both runs.
-            words = [RELAY, "run", "--to", "127.0.0.1:%d" % server.port, "--held", "1024", path]
+            # Both fill the lane, of 4,096 operations.
+            words = [RELAY, "run", "--to", "127.0.0.1:%d" % server.port, path]
             process = subprocess.Popen(words, stdin=subprocess.DEVNULL, stdout=subprocess.PIPE)
             peaks.append(peak(process))
             out = process.communicate(timeout=60)[0]

@@ -63,13 +63,13 @@ pub use relay_telling::{Ending, LaneTells, ProducerTell, telling};
 pub use relay_commands::apply::{ApplyFault, apply};
 pub use relay_commands::lines::{LinesFault, lines};
 pub use relay_commands::refuse_list::{ListFault, refuse_list};
-pub use relay_net::{PatientDial, TcpDial, TcpListen};
+pub use relay_net::{PatientDial, Reach, Sockets, TcpDial, TcpListen};
+pub use relay_pace::SleepPace;
 pub use relay_progress::Log;
 pub use relay_report::{
     Named, PickFault, ReportFault, first_missing, pick, read_names, report_text,
 };
 pub use relay_run::files::{RunOptions, run_files};
-pub use relay_run::ticking::SleepPace;
 pub use relay_sift::{CheckFault, SharedNotes, SiftNotes, Sifted, check};
 pub use relay_stub::{ServeError, stub_serve};
 pub use relay_words::Exit;

@@ -1,1 +1,5 @@
+pub mod Faults
+pub mod Reaching
+pub mod Retrying
+pub mod Timing
 pub mod Waiting

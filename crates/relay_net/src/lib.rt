@@ -11,9 +11,11 @@
 pub mod dial;
 pub mod listen;
 pub mod patient;
+pub mod reach;
 pub mod timed;
 
 pub use dial::TcpDial;
 pub use listen::TcpListen;
 pub use patient::PatientDial;
-pub use timed::{TimedDial, TimedStream};
+pub use reach::{Reach, Sockets};
+pub use timed::{Direction, TimedDial, TimedStream};

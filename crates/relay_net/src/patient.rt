@@ -1,21 +1,24 @@
 //! Dials that wait for an index that is down.
-ghost use Rattle.std.specs.Prelude.{◌≡◌, ◌+◌, ◌≤◌, is_ok, if◌then◌else◌, IfOk, OnErr};
+ghost use Rattle.std.specs.Prelude.{◌≡◌, ◌+◌, ◌-◌, ◌*◌, ◌≤◌, ◌↔◌, IsTrue, is_ok, is_err, if◌then◌else◌};
+ghost use Rattle.std.specs.Prelude.{IfOk, IfErr, OnErr, false};
+ghost use Rattle.std.specs.Duration.{as_nanos};
 ghost use Rattle.relay_action.specs.Streams.{one_more, FailedSince};
 ghost use Rattle.relay_http.specs.Connection.{HasNone};
+ghost use Rattle.relay_net.specs.Retrying.{second, Retried};
 
 use relay_action::ByteStream;
+use relay_clock::Timer;
 use relay_http::{Dial, DialFault};
 use std::marker::Model;
-use std::thread;
-use std::time::{Clock, Duration, Instant};
+use std::time::{Clock, Duration};
 
 /// A dial that keeps trying, once a second, until a number of seconds has passed. Contracts see the
-/// dial that it uses, for how many seconds it tries, how many calls failed and how many were made;
-/// the counts saturate at 2^64 - 1. A call counts once, however often it tries.
+/// dial that it uses, for how many seconds it tries, how many calls failed and how many were made,
+/// and its timer; the counts saturate at 2^64 - 1. A call counts once, however often it tries.
 #[derive(Drop)]
 pub struct PatientDial<D, C: Clock> {
     dial: D,
-    clock: C,
+    timer: Timer<C>,
     patience: u32,
     failed: u64,
     dialled: u64,
@@ -23,20 +26,27 @@ pub struct PatientDial<D, C: Clock> {
 
 impl<D, C: Clock> Model for PatientDial<D, C> {
     ghost use Rattle.std.specs.Prelude.{ℕ};
+    ghost use Rattle.relay_clock.specs.Timing.{Timing};
 
-    ghost Value = { D × ℕ × ℕ × ℕ };
+    ghost Value = { D × ℕ × ℕ × ℕ × Timing };
 
-    ghost view = { λ p. (p.dial, p.patience, p.failed, p.dialled) };
+    ghost view = { λ p. (p.dial, p.patience, p.failed, p.dialled, p.timer) };
 }
 
 impl<D, C: Clock> PatientDial<D, C> {
     /// A dial that tries this one for `patience` seconds, by this clock. With 0 it tries once.
     pub fn new(dial: D, clock: C, patience: u32) -> PatientDial<D, C>
-        ensures { result ≡ (dial, patience, 0, 0) }
+        ensures { result ≡ (
+          dial,
+          patience,
+          0,
+          0,
+          record { time = 0; slept = 0; reads = false; asked = 0 },
+        ) }
     {
         PatientDial {
             dial,
-            clock,
+            timer: Timer::new(clock),
             patience,
             failed: 0,
             dialled: 0,
@@ -44,27 +54,23 @@ impl<D, C: Clock> PatientDial<D, C> {
     }
 
     fn fail(&mut self, fault: DialFault) -> DialFault
-        ensures state { self.new ≡ (self.old.0, self.old.1, one_more self.old.2, self.old.3) }
+        ensures state { self.new
+            ≡ (self.old.0, self.old.1, one_more self.old.2, self.old.3, self.old.4) }
         ensures fault { result ≡ fault }
     {
         self.failed = self.failed.saturating_add(1);
         fault
     }
 
-    // Whether the patience is used up, as far as the clock can tell.
-    fn is_over(&self, start: Option<Instant>) -> bool {
-        let Some(start) = start else {
-            return false;
-        };
-        match start.elapsed(&self.clock) {
-            Ok(spent) => spent >= Duration::from_secs(self.patience as u64),
-            Err(_) => false,
-        }
-    }
-
-    // Waits a second.
-    fn pause(&self) {
-        thread::sleep(&self.clock, Duration::from_secs(1));
+    // Whether the patience of a call that began then is used up.
+    fn is_over(&mut self, start: Duration) -> bool
+        ensures same { (self.new.0 ≡ self.old.0) × (self.new.1 ≡ self.old.1)
+            × (self.new.2 ≡ self.old.2) × (self.new.3 ≡ self.old.3) }
+        ensures slept { self.new.4.slept ≡ self.old.4.slept }
+        ensures over { IsTrue result ↔ (self.old.1 * second ≤ self.new.4.time - as_nanos start) }
+    {
+        let spent = self.timer.now().saturating_sub(start);
+        spent >= Duration::from_secs(self.patience as u64)
     }
 }
 
@@ -72,6 +78,8 @@ impl<S: ByteStream, D: Dial<S>, C: Clock> Dial<S> for PatientDial<D, C> {
     ghost failed = { λ p. p.2 };
 
     ghost dialled = { λ p. p.3 };
+
+    ghost tells = { λ p f. D.tells p.0 f };
 
     /// The first stream that a try of the dial returns. The first try is made immediately, and at
     /// most `patience` more follow, each a second after the previous one, as long as the seconds
@@ -86,9 +94,12 @@ impl<S: ByteStream, D: Dial<S>, C: Clock> Dial<S> for PatientDial<D, C> {
         ensures patience { self.new.1 ≡ self.old.1 }
         ensures failed { OnErr result (FailedSince (D.failed self.old.0) (D.failed self.new.0)) }
         ensures tries { D.failed self.new.0 ≤ D.failed self.old.0 + self.old.1 + 1 }
+        ensures tells { IfErr result (λ f. D.tells self.new.0 f) }
+        ensures retried { Retried self.old.1 (is_err result) (D.dialled self.old.0)
+            (D.dialled self.new.0) self.old.4 self.new.4 }
     {
         self.dialled = self.dialled.saturating_add(1);
-        let start = Instant::now(&self.clock).ok();
+        let start = self.timer.now();
         let mut fault = match self.dial.dial() {
             Ok(stream) => return Ok(stream),
             Err(fault) => fault,
@@ -97,7 +108,7 @@ impl<S: ByteStream, D: Dial<S>, C: Clock> Dial<S> for PatientDial<D, C> {
             if self.is_over(start) {
                 break;
             }
-            self.pause();
+            self.timer.sleep(Duration::from_secs(1));
             match self.dial.dial() {
                 Ok(stream) => return Ok(stream),
                 Err(last) => fault = last,

@@ -1,24 +1,25 @@
 //! Connections with a time limit for each exchange.
-ghost use Rattle.std.specs.Prelude.{◌≡◌, ◌+◌, is_ok, if◌then◌else◌};
+ghost use Rattle.std.specs.Prelude.{◌≡◌, ◌+◌, ◌*◌, ◌≤◌, length, None, Some, false, is_ok, if◌then◌else◌};
+ghost use Rattle.std.specs.Prelude.{IfOk, IfErr, OnOk};
+ghost use Rattle.std.specs.Duration.{as_nanos};
 ghost use Rattle.relay_action.specs.Streams.{one_more, takes_some};
+ghost use Rattle.relay_clock.specs.Timing.{once_more};
 ghost use Rattle.relay_http.specs.Connection.{HasNone};
 
 use relay_action::{ByteIn, ByteOut, ByteStream, StdStream, StreamFailed};
+use relay_clock::Timer;
 use relay_http::{Dial, DialFault, Peek};
 use std::io::{Read, Write};
 use std::marker::Model;
 use std::net::OpenStream;
-use std::time::{Clock, Duration, Instant};
-
-// Whether this is no time for a call to wait: a limit below a millisecond means none to a socket.
-fn is_none(left: Duration) -> bool {
-    left < Duration::from_millis(1)
-}
+use std::time::{Clock, Duration};
 
 /// The direction in which a connection is used.
 #[derive(Clone, Copy, Debug, PartialEq, Eq)]
-enum Direction {
+pub enum Direction {
+    /// A message is read.
     Reading,
+    /// A message is written.
     Writing,
 }
 
@@ -27,83 +28,128 @@ enum Direction {
 /// peer that sends a byte now and then does not hold it for longer. If the clock cannot be read,
 /// only each call is limited, as the connection itself is.
 ///
-/// Contracts see how many calls failed; the count saturates at 2^64 - 1.
+/// Contracts see the limit, the direction of the message and when it began, the time, whether a
+/// call that failed was late, and how many calls failed; the count saturates at 2^64 - 1.
 #[derive(Drop)]
 pub struct TimedStream<T, C: Clock> {
     stream: StdStream<T>,
-    clock: C,
+    timer: Timer<C>,
     limit: u32,
     direction: Option<Direction>,
-    start: Option<Instant>,
+    began: Duration,
     failed: u64,
     // Whether no time was left when a call failed last.
     late: bool,
 }
 
 impl<T, C: Clock> Model for TimedStream<T, C> {
-    ghost use Rattle.std.specs.Prelude.{ℕ};
+    ghost use Rattle.std.specs.Duration.{as_nanos};
+    ghost use Rattle.relay_net.specs.Timing.{Timed};
 
-    ghost Value = { ℕ };
+    ghost Value = { Timed };
 
-    ghost view = { λ s. s.failed };
+    ghost view = { λ s. record {
+      limit = s.limit;
+      direction = s.direction;
+      began = as_nanos s.began;
+      time = s.timer.time;
+      asked = s.timer.asked;
+      late = s.late;
+      failed = s.failed;
+    } };
 }
 
 impl<T, C: Clock> TimedStream<T, C> {
+    ghost use Rattle.relay_net.specs.Timing.{Timed, Moves, is_late, left_of};
+
     /// A connection with this limit in seconds for each message, by this clock, or 0 for none.
     pub fn new(stream: StdStream<T>, clock: C, limit: u32) -> TimedStream<T, C>
-        ensures { result ≡ 0 }
+        ensures { result ≡ record {
+          limit = limit;
+          direction = None;
+          began = 0;
+          time = 0;
+          asked = 0;
+          late = false;
+          failed = 0;
+        } }
     {
         TimedStream {
             stream,
-            clock,
+            timer: Timer::new(clock),
             limit,
             direction: None,
-            start: None,
+            began: Duration::ZERO,
             failed: 0,
             late: false,
         }
     }
-}
 
-impl<T: OpenStream, C: Clock> TimedStream<T, C> {
+    // Reads the clock for a call in this direction, with which a message begins if the last one went
+    // the other way.
+    fn turn(&mut self, direction: Direction)
+        ensures moves { Moves direction self.old self.new }
+        ensures asked { self.new.asked ≡ once_more self.old.asked }
+        ensures late { self.new.late ≡ self.old.late }
+        ensures failed { self.new.failed ≡ self.old.failed }
+    {
+        let now = self.timer.now();
+        if self.direction != Some(direction) {
+            self.direction = Some(direction);
+            self.began = now;
+        }
+    }
+
+    // How much time the message has left, without a limit none.
+    fn left(&self) -> Duration
+        ensures { as_nanos result ≡ left_of self.now }
+    {
+        let spent = self.timer.time().saturating_sub(self.began);
+        Duration::from_secs(self.limit as u64).saturating_sub(spent)
+    }
+
+    // Whether there is a limit, and no time is left within it: a limit below a millisecond means
+    // none to a socket.
+    fn is_late(&self) -> bool
+        ensures { result ≡ is_late self.now }
+    {
+        self.limit > 0 && self.left() < Duration::from_millis(1)
+    }
+
     // Counts a failed call in this direction.
     fn fail(&mut self, direction: Direction) -> StreamFailed
-        ensures { self.new ≡ one_more self.old }
+        ensures moves { Moves direction self.old self.new }
+        ensures asked { self.new.asked ≡ once_more self.old.asked }
+        ensures late { self.new.late ≡ is_late self.new }
+        ensures failed { self.new.failed ≡ one_more self.old.failed }
     {
-        self.late = match self.left(direction) {
-            Some(left) => is_none(left),
-            None => false,
-        };
+        self.turn(direction);
+        self.late = self.is_late();
         self.failed = self.failed.saturating_add(1);
         StreamFailed
     }
+}
 
-    // How long the next call may wait in this direction. `None`: there is no limit, or it cannot be
-    // told.
-    fn left(&mut self, direction: Direction) -> Option<Duration>
-        ensures { self.new ≡ self.old }
-    {
-        if self.limit == 0 {
-            return None;
-        }
-        if self.direction != Some(direction) {
-            self.direction = Some(direction);
-            self.start = Instant::now(&self.clock).ok();
-        }
-        let spent = self.start?.elapsed(&self.clock).ok()?;
-        Some(Duration::from_secs(self.limit as u64).saturating_sub(spent))
-    }
+impl<T: OpenStream, C: Clock> TimedStream<T, C> {
+    ghost use Rattle.relay_net.specs.Timing.{Timed, Moves, is_late};
+    ghost use Rattle.std.specs.Prelude.{IsTrue};
 
     // Whether there is time for a call in this direction, which then may wait for no longer.
     fn has_time(&mut self, direction: Direction) -> bool
-        ensures { self.new ≡ self.old }
+        ensures moves { Moves direction self.old self.new }
+        ensures asked { self.new.asked ≡ once_more self.old.asked }
+        ensures late { self.new.late ≡ self.old.late }
+        ensures failed { self.new.failed ≡ self.old.failed }
+        ensures in_time { IsTrue result → is_late self.new ≡ false }
     {
-        let Some(left) = self.left(direction) else {
+        self.turn(direction);
+        if self.limit == 0 {
             return true;
-        };
-        if is_none(left) {
+        }
+        if self.is_late() {
             return false;
         }
+        let left = self.left();
         let socket = self.stream.get_ref();
         match direction {
             Direction::Reading => socket.set_read_timeout(Some(left)).is_ok(),
@@ -119,12 +165,26 @@ impl<T, C: Clock> ByteStream for TimedStream<T, C> {
 
     ghost written = { λ s. None };
 
-    ghost failed = { λ s. s };
+    ghost failed = { λ s. s.failed };
 }
 
 impl<T: OpenStream + Read, C: Clock> ByteIn for TimedStream<T, C> {
+    ghost use Rattle.relay_net.specs.Timing.{Moves, is_late};
+    ghost use Rattle.relay_net.specs.declared.timed.Direction.TheVariants.{Reading};
+
     /// Reads as [`StdStream`] does. It fails if the message is not read within the limit.
-    fn read(&mut self, buffer: &mut [u8]) -> Result<usize, StreamFailed> {
+    fn read(&mut self, buffer: &mut [u8]) -> Result<usize, StreamFailed>
+        ensures bound { IfOk result (λ n. n ≤ length buffer.new) }
+        ensures count { self.new.failed
+            ≡ (if is_ok result then self.old.failed else one_more self.old.failed) }
+        ensures moves { Moves Reading self.old self.new }
+        // The clock was asked before the call, and after one that failed.
+        ensures asked { self.new.asked ≡ (if is_ok result then once_more self.old.asked
+            else once_more (once_more self.old.asked)) }
+        // The call was made while time was left.
+        ensures in_time { OnOk result (is_late self.new ≡ false) }
+        ensures late { self.new.late ≡ (if is_ok result then self.old.late else is_late self.new) }
+    {
         if !self.has_time(Direction::Reading) {
             return Err(self.fail(Direction::Reading));
         }
@@ -136,8 +196,22 @@ impl<T: OpenStream + Read, C: Clock> ByteIn for TimedStream<T, C> {
 }
 
 impl<T: OpenStream + Write, C: Clock> ByteOut for TimedStream<T, C> {
+    ghost use Rattle.relay_net.specs.Timing.{Moves, is_late};
+    ghost use Rattle.relay_net.specs.declared.timed.Direction.TheVariants.{Writing};
+
     /// Writes as [`StdStream`] does. It fails if the message is not written within the limit.
-    fn write(&mut self, bytes: &[u8]) -> Result<usize, StreamFailed> {
+    fn write(&mut self, bytes: &[u8]) -> Result<usize, StreamFailed>
+        ensures bound { IfOk result (λ n. n ≤ length bytes.now) }
+        ensures count { self.new.failed
+            ≡ (if takes_some result bytes.now then self.old.failed else one_more self.old.failed) }
+        ensures moves { Moves Writing self.old self.new }
+        // The clock was asked before the call, and after one that failed.
+        ensures asked { self.new.asked ≡ (if is_ok result then once_more self.old.asked
+            else once_more (once_more self.old.asked)) }
+        // The call was made while time was left.
+        ensures in_time { OnOk result (is_late self.new ≡ false) }
+        ensures late { self.new.late ≡ (if is_ok result then self.old.late else is_late self.new) }
+    {
         if !self.has_time(Direction::Writing) {
             return Err(self.fail(Direction::Writing));
         }
@@ -156,7 +230,9 @@ impl<T: OpenStream, C: Clock> Peek for TimedStream<T, C> {
     }
 
     /// Whether the message had no time left when a call failed last.
-    fn has_timed_out(&self) -> bool {
+    fn has_timed_out(&self) -> bool
+        ensures { result ≡ self.now.late }
+    {
         self.late
     }
 }
@@ -192,8 +268,17 @@ impl<T, D: Dial<StdStream<T>>, C: Clock + Copy> Dial<TimedStream<T, C>> for Time
 
     ghost dialled = { λ t. D.dialled t.0 };
 
+    ghost tells = { λ t f. D.tells t.0 f };
+
     /// A connection of the dial inside, with the limit. `DialFault`: that of the dial inside.
-    fn dial(&mut self) -> Result<TimedStream<T, C>, DialFault> {
+    fn dial(&mut self) -> Result<TimedStream<T, C>, DialFault>
+        ensures failed { D.failed self.new.0
+            ≡ (if is_ok result then D.failed self.old.0 else one_more (D.failed self.old.0)) }
+        ensures dialled { D.dialled self.new.0 ≡ one_more (D.dialled self.old.0) }
+        ensures limit { self.new.1 ≡ self.old.1 }
+        ensures limited { IfOk result (λ s. s.limit ≡ self.old.1) }
+        ensures tells { IfErr result (λ f. D.tells self.new.0 f) }
+    {
         let stream = self.dial.dial()?;
         Ok(TimedStream::new(stream, self.clock, self.limit))
     }

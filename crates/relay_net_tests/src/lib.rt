@@ -1,6 +1,6 @@
 //! Tests of `relay_net`: requests over the loopback, from a wire's dial to the stand-in server's
 //! listener and back, also to a server in its own thread; addresses that cannot be dialled or
-//! listened on; dials that try again; and reads that wait too long.
+//! listened on; names with several addresses; dials that try again; and reads that wait too long.
 #![tactic(auto)]
 
 #[cfg(test)]
@@ -9,6 +9,8 @@ mod beside;
 mod listening;
 #[cfg(test)]
 mod loopback;
+#[cfg(test)]
+mod names;
 #[cfg(test)]
 mod patience;
 #[cfg(test)]

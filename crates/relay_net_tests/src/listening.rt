@@ -4,7 +4,7 @@ ghost use Rattle.std.specs.Prelude.{◌≡◌, [], IfSome};
 use relay_action::StdStream;
 use relay_http::is_host;
 use relay_index::{Index, Script};
-use relay_net::{TcpDial, TcpListen};
+use relay_net::{Sockets, TcpDial, TcpListen};
 use relay_stub::stub_serve;
 use relay_wires::{HttpWire, Unknown};
 use std::alloc::Global;
@@ -33,7 +33,7 @@ pub fn wired<R: Net + Copy>(
     alloc: Global,
     net: R,
     address: String,
-) -> Option<HttpWire<StdStream<R::Stream>, TcpDial<R>, Unknown>>
+) -> Option<HttpWire<StdStream<R::Stream>, TcpDial<Sockets<R>>, Unknown>>
     ensures { IfSome result (λ w. w.out ≡ []) }
 {
     let host = address.clone().ok()?;

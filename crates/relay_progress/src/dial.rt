@@ -6,7 +6,7 @@ use crate::counts::{Shared, Trouble};
 use relay_action::StdStream;
 use relay_http::{Dial, DialFault};
 use relay_lane::Loss;
-use relay_net::TcpDial;
+use relay_net::{Sockets, TcpDial};
 use std::io::ErrorKind;
 use std::marker::Model;
 use std::net::Net;
@@ -15,22 +15,23 @@ use std::net::Net;
 /// the dial inside, which is what contracts see.
 #[derive(Drop)]
 pub struct CountedDial<R: Net> {
-    dial: TcpDial<R>,
+    dial: TcpDial<Sockets<R>>,
     counts: Option<Shared>,
 }
 
 impl<R: Net> Model for CountedDial<R> {
     ghost use Rattle.std.specs.Prelude.{ℕ, List, Option};
     ghost use Rattle.std.specs.declared.io.ErrorKind.{ErrorKind};
+    ghost use Rattle.relay_net.specs.declared.reach.Sockets.{Sockets};
 
-    ghost Value = { List ℕ × ℕ × ℕ × ℕ × Option ErrorKind };
+    ghost Value = { List ℕ × ℕ × ℕ × ℕ × Option ErrorKind × Sockets R };
 
     ghost view = { λ d. d.dial };
 }
 
 impl<R: Net> CountedDial<R> {
     /// A dial that records in these counts how each call ended.
-    pub fn new(dial: TcpDial<R>, counts: Option<Shared>) -> CountedDial<R>
+    pub fn new(dial: TcpDial<Sockets<R>>, counts: Option<Shared>) -> CountedDial<R>
         ensures { result ≡ dial }
     {
         CountedDial { dial, counts }
@@ -38,9 +39,13 @@ impl<R: Net> CountedDial<R> {
 }
 
 impl<R: Net> Dial<StdStream<R::Stream>> for CountedDial<R> {
+    ghost use Rattle.relay_net.specs.Faults.{IsWhy};
+
     ghost failed = { λ d. d.1 };
 
     ghost dialled = { λ d. d.2 };
+
+    ghost tells = { λ d f. IsWhy d.4 f };
 
     fn dial(&mut self) -> Result<StdStream<R::Stream>, DialFault> {
         let result = self.dial.dial();

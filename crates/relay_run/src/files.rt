@@ -35,13 +35,13 @@ use crate::skipping::{LeavingOut, say_left_out, sift_readers};
 use crate::source::{STANDARD_NAME, count_named};
 use crate::stopping::{SharedStop, Stop, reason_of_stop, reason_said, say_stopped, were_cut};
 use crate::telling::{SavingTell, make_tells};
-use crate::ticking::SleepPace;
 use crate::watching::{Counters, counters_of, share, start_watch, stop_watch};
 use relay_action::{ByteIn, ByteOut, DocKey, write_all};
 use relay_core::Report;
 use relay_http::is_host;
 use relay_lane::RelayConfig;
 use relay_net::{PatientDial, TcpDial, TimedDial, TimedStream};
+use relay_pace::SleepPace;
 use relay_progress::{CountedDial, CountedWire, Log, Shared, Show};
 use relay_sift::{SharedNotes, SiftNotes};
 use relay_threads::{FinishFault, FinishFaultKind, LaneSummary, StartFault, Summary};
@@ -176,13 +176,12 @@ fn make_dial(
     options: &RunOptions,
     counts: &Option<Shared>,
 ) -> Result<RunDial, AllocError>
-    ensures { IfOk result (λ d.
-        d ≡ (
-          ((string_bytes options.now.to, 0, 0, options.now.timeout, None), options.now.timeout),
-          options.now.patience,
-          0,
-          0,
-        )) }
+    ensures address { IfOk result (λ d. d.0.0.0 ≡ string_bytes options.now.to) }
+    ensures timeout { IfOk result (λ d. (d.0.0.3 ≡ options.now.timeout)
+        × (d.0.1 ≡ options.now.timeout)) }
+    ensures patience { IfOk result (λ d. d.1 ≡ options.now.patience) }
+    ensures fresh { IfOk result (λ d. (d.0.0.1 ≡ 0) × (d.0.0.2 ≡ 0) × (d.0.0.4 ≡ None)
+        × (d.2 ≡ 0) × (d.3 ≡ 0)) }
 {
     let address = String::from_str(alloc, options.to.as_str())?;
     let dial = TcpDial::new(rt, address).with_timeout(options.timeout);

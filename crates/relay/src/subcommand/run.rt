@@ -7,11 +7,11 @@ use relay_core::config::{
     ATTEMPT_LIMIT, BYTES_LEAST, BYTES_LIMIT, CAPACITY_LIMIT, COUNT_LIMIT, DEAL_LIMIT, EPOCH_LIMIT,
     FLYING_LIMIT, HELD_LIMIT, LANE_LIMIT, LINGER_LIMIT,
 };
+use relay_pace::TICK;
 use relay_progress::Log;
 use relay_run::files::{RunOptions, run_files};
 use relay_run::report_file::{NOT_APART, NOT_APART_LEFT_OUT};
 use relay_run::run::{Limits, RelayConfig};
-use relay_run::ticking::TICK;
 use relay_target::{AddressFault, read_address, read_name};
 use relay_words::{Exit, duration_of};
 use std::alloc::{AllocError, Global};
