@@ -55,7 +55,8 @@ def hopeless():
                 end, out, err = relay_run(server.port, [name])
                 counts = reported(out)
                 check("a first answer %d" % status, end == 3 and err == HOPELESS % status and counts[:2] == (0, 0) and counts[2] <= most, (end, err, counts))
-            check("a first answer %d: requests" % status, server.requests <= 20, server.requests)
+            # A request has at most one operation on each of the 100 documents.
+            check("a first answer %d: requests" % status, server.requests <= (500 + ACCEPTED) // 100 + 3, server.requests)
             server.close()
         for status in (400, 402, 405, 418, 299, 500):
             server = Server(lambda number: status)
