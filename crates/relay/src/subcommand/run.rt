@@ -294,49 +294,67 @@ fn with_numbers<'a>(alloc: Global, command: Command<'a>) -> Result<Command<'a>, 
     Ok(command)
 }
 
-// The options for what is saved and shown.
-fn with_outputs<'a>(alloc: Global, command: Command<'a>) -> Result<Command<'a>, AllocError> {
-    let report = Arg::new(alloc, "report")
+// Where reports go.
+fn report<'a>(alloc: Global) -> Arg<'a> {
+    Arg::new(alloc, "report")
         .long("report")
         .value_name("FILE")
         .action(ArgAction::Set)
         .help(
             "Save what could not be settled to this file as NDJSON, one object per line; it is opened before anything is put, has to be new or empty, and is written as they arise",
-        );
-    let skip_invalid = Arg::new(alloc, "skip-invalid")
+        )
+}
+
+// Where invalid operations go.
+fn skip_invalid<'a>(alloc: Global) -> Arg<'a> {
+    Arg::new(alloc, "skip-invalid")
         .long("skip-invalid")
         .value_name("FILE")
         .action(ArgAction::Set)
         .help(
             "Leave out invalid operations, and write their lines to this file, each after a line that says what is wrong; it has to be new or empty, and the run ends with status 5 if any were left out [default: none, so a file is read up to its first fault]",
-        );
+        )
+}
+
+// Whether these files may have lines already.
+fn append<'a>(alloc: Global) -> Result<Arg<'a>, AllocError> {
     let append = Arg::new(alloc, "append")
         .long("append")
         .action(ArgAction::SetTrue)
-        .requires_arg("report")?
-        .help(
-            "Add to what the files of --report and --skip-invalid have; a line that an earlier run left torn is cut off",
-        );
-    let progress = Arg::new(alloc, "progress")
-        .long("progress")
-        .action(ArgAction::SetTrue)
-        .help(
-            "Show progress on standard error every second; a terminal gets each line over the one before",
-        );
-    let log = Arg::new(alloc, LOG)
+        .requires_arg("report")?;
+    Ok(append.help(
+        "Add to what the files of --report and --skip-invalid have; a line that an earlier run left torn is cut off",
+    ))
+}
+
+// What is said while the run goes on.
+fn log<'a>(alloc: Global) -> Arg<'a> {
+    Arg::new(alloc, LOG)
         .long(LOG)
         .value_name("WHAT")
         .action(ArgAction::Set)
         .default_value("errors")
-        .help(LOG_HELP);
-    let limit = number(alloc, &MAX_REPORTS);
-    command
-        .arg(report)?
-        .arg(skip_invalid)?
-        .arg(append)?
-        .arg(limit)?
-        .arg(log)?
-        .arg(progress)
+        .help(LOG_HELP)
+}
+
+// Whether progress is shown.
+fn progress<'a>(alloc: Global) -> Arg<'a> {
+    Arg::new(alloc, "progress")
+        .long("progress")
+        .action(ArgAction::SetTrue)
+        .help(
+            "Show progress on standard error every second; a terminal gets each line over the one before",
+        )
+}
+
+// The options for what is saved and shown.
+fn with_outputs<'a>(alloc: Global, command: Command<'a>) -> Result<Command<'a>, AllocError> {
+    let command = command.arg(report(alloc))?;
+    let command = command.arg(skip_invalid(alloc))?;
+    let command = command.arg(append(alloc)?)?;
+    let command = command.arg(number(alloc, &MAX_REPORTS))?;
+    let command = command.arg(log(alloc))?;
+    command.arg(progress(alloc))
 }
 
 /// Its help and its options.
