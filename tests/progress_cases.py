@@ -107,13 +107,14 @@ def on_a_terminal(port, files, *more):
 
 
 def terminals():
-    """Each line replaces the previous one, and without --progress there are messages only about connections."""
+    """Each line replaces the previous one and does not wrap, and without --progress there are messages only about connections."""
     with tempfile.TemporaryDirectory() as folder:
         path = written(folder, 0, [("%d" % n, None) for n in range(15)])
         server = Server(delay=lambda: 0.1)
         status, out, came = on_a_terminal(server.port, [path], "--progress", "--count", "1", "--linger", "0")
-        parts = came.split(b"\x1b[K")
-        check("one over the other", status == 0 and parts[-1] == b"\r\n" and len(parts) > 2 and all(it[:1] == b"\r" and numbers(it[1:]) for it in parts[:-1]), came)
+        parts = came.split(b"\x1b[K\x1b[?7h")
+        front = b"\r\x1b[?7l"
+        check("one over the other", status == 0 and parts[-1] == b"\r\n" and len(parts) > 2 and all(it.startswith(front) and numbers(it[len(front):]) for it in parts[:-1]), came)
         server.close()
         server = Server()
         check("nothing to say", on_a_terminal(server.port, [path]) == (0, b"applied 15 already 0 reported 0\n", b""))

@@ -65,7 +65,7 @@ def files_that_fail():
         path, server = written(folder, 0, operations(0, 5, 5)), Server()
         nowhere = os.path.join(folder, "no", "report")
         done = relay_run(server.port, [path], "--report", nowhere)
-        check("a file that cannot be made", done == (3, b"", b"%s: create failed\n" % nowhere.encode()) and server.requests == 0, done)
+        check("a file that cannot be made", done == (3, b"", b"%s: create failed\n  entity not found\n" % nowhere.encode()) and server.requests == 0, done)
         done = relay_run(server.port, [path], "--report", "/dev/full")
         check("a full device with nothing to save", done == (0, b"applied 5 already 0 reported 0\n", b""), done)
         done = relay_run(server.port, [path], "--report", "/dev/full")

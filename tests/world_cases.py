@@ -379,8 +379,8 @@ def before():
         file.write(b"{}\n")
         file.flush()
         case("a request that is none", served, first, b"", file.name.encode() + b': {"error":{"line":2,"type":"NotOneAction"},"status":400}\n', 2)
-    case("no such file", ["world", "--writes", file.name], first, b"", file.name.encode() + b": open failed\n", 3)
-    case("a directory", ["world", "--writes", "/"], first, b"", b"/: read failed\n", 3)
+    case("no such file", ["world", "--writes", file.name], first, b"", file.name.encode() + b": open failed\n  entity not found\n", 3)
+    case("a directory", ["world", "--writes", "/"], first, b"", b"/: read failed\n  is a directory\n", 3)
 
 
 def scripts():

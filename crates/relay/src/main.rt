@@ -11,6 +11,7 @@
 #![tactic(auto)]
 
 mod command;
+mod noted;
 mod refusals;
 mod report;
 mod stand_in;

@@ -2,7 +2,8 @@
 ghost use Rattle.std.specs.Prelude.{None};
 ghost use Rattle.relay_index.specs.States.{IsHighest};
 
-use crate::report::{out_of_memory, said};
+use crate::noted::{Reason, open_noted};
+use crate::report::{failed, out_of_memory, said};
 use clap::{Arg, ArgAction, ArgMatches};
 use relay_action::StdStream;
 use relay_commands::apply::ApplyFault;
@@ -10,7 +11,6 @@ use relay_commands::body::read_body;
 use relay_index::{Index, Script};
 use relay_words::Exit;
 use std::alloc::{AllocError, Global};
-use std::fs::File;
 
 /// The option `--reasons`.
 pub fn reasons<'a>(alloc: Global) -> Arg<'a> {
@@ -72,13 +72,12 @@ fn body_of<R: Eprint + AllocGlobal>(
     host: HostRuntime,
     path: &str,
 ) -> Result<Vec<u8>, Exit> {
-    let Ok(file) = File::open(&host, path) else {
-        return Err(said(rt, path, "open failed", Exit::Device));
-    };
+    let reason = Reason::new();
+    let file = open_noted(rt, host, path, &reason)?;
     match read_body(rt.alloc(), &mut StdStream::new(file)) {
         Ok(body) => Ok(body),
         Err(ApplyFault::BodyLong) => Err(said(rt, path, "body too long", Exit::Input)),
         Err(ApplyFault::Memory) => Err(out_of_memory(rt)),
-        Err(_) => Err(said(rt, path, "read failed", Exit::Device)),
+        Err(_) => Err(failed(rt, path, "read failed", reason.get().copied())),
     }
 }

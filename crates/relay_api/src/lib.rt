@@ -69,7 +69,8 @@ pub use relay_progress::Log;
 pub use relay_report::{
     Named, PickFault, ReportFault, first_missing, pick, read_names, report_text,
 };
-pub use relay_run::files::{RunOptions, run_files};
+pub use relay_run::files::run_files;
+pub use relay_run::options::RunOptions;
 pub use relay_sift::{CheckFault, SharedNotes, SiftNotes, Sifted, check};
 pub use relay_stub::{ServeError, stub_serve};
 pub use relay_words::Exit;

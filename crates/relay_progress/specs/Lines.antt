@@ -32,13 +32,19 @@ counts_text p =
 abbrev pub progress_text : Progress → List ℕ
 progress_text p = codes "read " ++ read_text p.read p.size ++ counts_text p ++ codes ", " ++ answer_text p.idle
 
--- the line as it is written: on a terminal over the previous one, of which nothing is left, otherwise as a line of
--- its own
+-- the line as it is written: on a terminal over the previous one, of which nothing is left, and cut at the right edge, since the
+-- terminal does not wrap while it is written (DECAWM, mode 7 of the DEC VT100); otherwise as a line of its own
 abbrev pub erase_rest : List ℕ
 erase_rest = 27 ∷ codes "[K"
 
+abbrev pub wrap_off : List ℕ
+wrap_off = 27 ∷ codes "[?7l"
+
+abbrev pub wrap_on : List ℕ
+wrap_on = 27 ∷ codes "[?7h"
+
 abbrev pub written_text : Bool → List ℕ → List ℕ
-written_text true text = codes "\r" ++ text ++ erase_rest
+written_text true text = codes "\r" ++ wrap_off ++ text ++ erase_rest ++ wrap_on
 written_text false text = text ++ codes "\n"
 
 -- ---- connections

@@ -1,5 +1,5 @@
 //! The progress line.
-ghost use Rattle.std.specs.Prelude.{◌≡◌, ◌++◌, IfOk, OnOk};
+ghost use Rattle.std.specs.Prelude.{◌≡◌, ◌++◌, IfOk, OnOk, true};
 ghost use Rattle.relay_progress.specs.Lines.{ago_text, answer_text, counts_text};
 ghost use Rattle.relay_progress.specs.Lines.{progress_text, read_text, share};
 ghost use Rattle.relay_progress.specs.Lines.{trouble_name, trouble_text, written_text};
@@ -44,21 +44,27 @@ pub fn progress_text(alloc: Global, progress: &Progress) -> Result<Vec<u8>, Allo
     Ok(text)
 }
 
-/// The progress line: with `over`, on a terminal, it overwrites the previous line, otherwise it is
-/// a line of its own. `AllocError`: allocation failed.
+/// The progress line: with `over`, on a terminal, it overwrites the previous line and is cut at the
+/// right edge, otherwise it is a line of its own. `AllocError`: allocation failed.
 pub fn written_text(alloc: Global, progress: &Progress, over: bool) -> Result<Vec<u8>, AllocError>
     ensures { IfOk result (λ text. text.items ≡ written_text over (progress_text progress.now)) }
 {
-    let line = progress_text(alloc, progress)?;
-    let mut text = Vec::new(alloc);
+    let mut line = progress_text(alloc, progress)?;
     if over {
-        text.extend_from_slice(b"\r")?;
-        text.extend_from_slice(&line)?;
-        text.extend_from_slice(b"\x1b[K")?;
-    } else {
-        text.extend_from_slice(&line)?;
-        text.extend_from_slice(b"\n")?;
+        return text_over(alloc, &line);
     }
+    line.extend_from_slice(b"\n")?;
+    Ok(line)
+}
+
+// The line for a terminal.
+fn text_over(alloc: Global, line: &[u8]) -> Result<Vec<u8>, AllocError>
+    ensures { IfOk result (λ text. text.items ≡ written_text true line.now) }
+{
+    let mut text = Vec::new(alloc);
+    text.extend_from_slice(b"\r\x1b[?7l")?;
+    text.extend_from_slice(line)?;
+    text.extend_from_slice(b"\x1b[K\x1b[?7h")?;
     Ok(text)
 }
 

@@ -49,7 +49,7 @@ const ROWS: &[(&Progress, bool, &[u8])] = &[
     (
         &NONE,
         true,
-        b"\rread 0 bytes, sent 0 operations in 0 requests, settled 0, refused 0, repeats 0, out 0, no answer yet\x1b[K",
+        b"\r\x1b[?7lread 0 bytes, sent 0 operations in 0 requests, settled 0, refused 0, repeats 0, out 0, no answer yet\x1b[K\x1b[?7h",
     ),
     (
         &EMPTY,

@@ -85,7 +85,7 @@ const ROWS: &[Row] = &[
         over: true,
         trouble: Trouble::None,
         millis: 0,
-        wanted: b"\rread 0 bytes, sent 0 operations in 0 requests, settled 0, refused 0, repeats 0, out 0, no answer yet\x1b[K\n",
+        wanted: b"\r\x1b[?7lread 0 bytes, sent 0 operations in 0 requests, settled 0, refused 0, repeats 0, out 0, no answer yet\x1b[K\x1b[?7h\n",
     },
     Row {
         lines: false,
@@ -106,7 +106,7 @@ const ROWS: &[Row] = &[
         over: true,
         trouble: Trouble::TimedOut,
         millis: 0,
-        wanted: b"\r\x1b[Ka:1: connection timed out, trying again\n\rread 0 bytes, sent 0 operations in 0 requests, settled 0, refused 0, repeats 0, out 0, no answer yet\x1b[K\n",
+        wanted: b"\r\x1b[Ka:1: connection timed out, trying again\n\r\x1b[?7lread 0 bytes, sent 0 operations in 0 requests, settled 0, refused 0, repeats 0, out 0, no answer yet\x1b[K\x1b[?7h\n",
     },
 ];
 

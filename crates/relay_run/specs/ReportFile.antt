@@ -26,16 +26,16 @@ not_empty_text option.SkipInvalid = codes "error: --skip-invalid FILE is not emp
 
 -- the message for a file that this option names
 abbrev pub report_file_text : FileOption → List ℕ → ReportFileFault → List ℕ
-report_file_text o name fault.Open = file_failed_text name (codes "create")
+report_file_text o name (fault.Open reason) = file_failed_text name (codes "create")
 report_file_text o name fault.Input = not_apart_text o
 report_file_text o name fault.Content = not_empty_text o
-report_file_text o name fault.Mend = file_failed_text name (codes "append")
+report_file_text o name (fault.Mend reason) = file_failed_text name (codes "append")
 report_file_text o name fault.Memory = codes ""
 
 -- a file that the command line should not have named is a usage fault
 abbrev pub exit_of_report_file : ReportFileFault → Exit
-exit_of_report_file fault.Open = exit.Device
+exit_of_report_file (fault.Open reason) = exit.Device
 exit_of_report_file fault.Input = exit.Usage
 exit_of_report_file fault.Content = exit.Usage
-exit_of_report_file fault.Mend = exit.Device
+exit_of_report_file (fault.Mend reason) = exit.Device
 exit_of_report_file fault.Memory = exit.Memory

@@ -4,7 +4,7 @@ ghost use Rattle.relay_run.specs.Saying.{IsSaid};
 ghost use Rattle.relay_run.specs.Hints.{IsGreatestStored, IsHint, epoch_of, has_conflict, hint_for};
 ghost use Rattle.relay_run.specs.Hints.{higher, is_conflict, reach_text, stored_by, stored_text};
 
-use crate::files::say;
+use crate::saying::say;
 use relay_action::ByteOut;
 use relay_core::Report;
 use relay_core::config::EPOCH_LIMIT;

@@ -5,7 +5,8 @@ ghost use Rattle.relay_run.specs.Leasing.{exit_of_epoch};
 ghost use Rattle.relay_run.specs.Saying.{IsSaid};
 ghost use Rattle.relay_http.specs.WrittenRequest.{is_host};
 
-use crate::files::{RunOptions, say};
+use crate::options::RunOptions;
+use crate::saying::say;
 use relay_action::{ByteOut, DocKey};
 use relay_epoch::{EpochFault, LAST_EPOCH, Patience, fault_text, take_epoch};
 use relay_lane::RelayConfig;

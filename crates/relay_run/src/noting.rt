@@ -20,6 +20,14 @@ pub(crate) struct FileNote {
 /// A note that two threads hold.
 pub(crate) type SharedNote = Arc<FileNote, Global>;
 
+/// The line with a reason of the system's, beneath that of a fault. `AllocError`: allocation failed.
+pub(crate) fn reason_line(alloc: Global, reason: ErrorKind) -> Result<Vec<u8>, AllocError> {
+    let mut text = Vec::new(alloc);
+    let line = format!(in alloc; "  {reason}\n")?;
+    text.extend_from_slice(line.as_bytes())?;
+    Ok(text)
+}
+
 impl FileNote {
     /// Nothing is known yet. `AllocError`: allocation failed.
     pub(crate) fn shared(alloc: Global) -> Result<SharedNote, AllocError> {
@@ -44,12 +52,10 @@ impl FileNote {
 
     // The line with the reason, if there is one.
     fn reason_line(&self, alloc: Global) -> Result<Vec<u8>, AllocError> {
-        let mut text = Vec::new(alloc);
-        if let Some(reason) = self.reason.get() {
-            let line = format!(in alloc; "  {reason}\n")?;
-            text.extend_from_slice(line.as_bytes())?;
+        match self.reason.get() {
+            Some(reason) => reason_line(alloc, *reason),
+            None => Ok(Vec::new(alloc)),
         }
-        Ok(text)
     }
 
     /// What is said beneath this fault of the file: the system's reason if it could not be opened or

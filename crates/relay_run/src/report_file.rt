@@ -4,8 +4,9 @@ ghost use Rattle.relay_run.specs.ReportFile.{AreNewHandles, exit_of_report_file,
 ghost use Rattle.relay_run.specs.ReportFile.{not_empty_text, report_file_text};
 ghost use Rattle.relay_run.specs.Saying.{IsSaid};
 
-use crate::files::say;
+use crate::noting::reason_line;
 use crate::saving::say_failed;
+use crate::saying::say;
 use crate::source::STANDARD_NAME;
 use relay_action::{ByteOut, StdStream};
 use relay_ndjson::LINE_LIMIT;
@@ -63,14 +64,14 @@ fn not_empty(option: FileOption) -> &'static str
 /// Why the file for the reports, or for invalid operations, was not opened.
 #[derive(Clone, Copy, Debug, PartialEq, Eq)]
 pub(crate) enum ReportFileFault {
-    /// The system does not open or create it, or does not say what it is.
-    Open,
+    /// The system does not open or create it, or does not say what it is, for this reason.
+    Open(ErrorKind),
     /// It is one of the files that are read, by whatever name.
     Input,
     /// It has a content, and nobody asked to add to it.
     Content,
-    /// Its end could not be read or mended.
-    Mend,
+    /// Its end could not be read or mended, for this reason.
+    Mend(ErrorKind),
     /// An allocation failed.
     Memory,
 }
@@ -136,7 +137,7 @@ fn handle_of(file: &Option<File>) -> Result<ReportFile, ReportFileFault> {
     };
     match file.try_clone() {
         Ok(file) => Ok(ReportFile::File(file)),
-        Err(_) => Err(ReportFileFault::Open),
+        Err(error) => Err(ReportFileFault::Open(error.kind())),
     }
 }
 
@@ -153,11 +154,9 @@ pub(crate) fn open_report(
     append: bool,
     files: &[String],
 ) -> Result<File, ReportFileFault> {
-    let Ok(file) = open(host, name, append) else {
-        return Err(ReportFileFault::Open);
-    };
-    let Ok(metadata) = file.metadata() else {
-        return Err(ReportFileFault::Open);
+    let (file, metadata) = match open(host, name, append) {
+        Ok(opened) => opened,
+        Err(error) => return Err(ReportFileFault::Open(error.kind())),
     };
     if !metadata.is_file() {
         return Ok(file);
@@ -174,11 +173,13 @@ pub(crate) fn open_report(
     Ok(file)
 }
 
-// Opens a file without changing what it has. What is added goes to its end.
-fn open(host: &HostRuntime, name: &str, append: bool) -> Result<File, std::io::Error> {
+// Opens a file without changing what it has, and looks at what it is. What is added goes to its end.
+fn open(host: &HostRuntime, name: &str, append: bool) -> Result<(File, Metadata), io::Error> {
     let mut how = OpenOptions::new();
     how.create(true).append(true).read(append);
-    how.open(host, name)
+    let file = how.open(host, name)?;
+    let metadata = file.metadata()?;
+    Ok((file, metadata))
 }
 
 // Whether one of the names is that of this file: the same device and the same inode.
@@ -216,26 +217,46 @@ fn mend(alloc: Global, file: File, size: u64) -> Result<File, ReportFileFault> {
     };
     match mended {
         Ok(()) => Ok(file),
-        Err(_) => Err(ReportFileFault::Mend),
+        Err(error) => Err(ReportFileFault::Mend(error.kind())),
     }
 }
 
 // What a file has from this place on.
 fn end_of(alloc: Global, file: &mut File, start: u64) -> Result<Vec<u8>, ReportFileFault> {
     let mut text = Vec::new(alloc);
-    if file.seek(SeekFrom::Start(start)).is_err() {
-        return Err(ReportFileFault::Mend);
-    }
-    match file.read_to_end(&mut text) {
+    match read_from(file, start, &mut text) {
         Ok(_) => Ok(text),
         Err(error) if error.kind() == ErrorKind::OutOfMemory => Err(ReportFileFault::Memory),
-        Err(_) => Err(ReportFileFault::Mend),
+        Err(error) => Err(ReportFileFault::Mend(error.kind())),
     }
 }
 
-/// Writes why the file with this name, which this option names, was not opened, and returns the exit
-/// status. `AllocError`: an allocation failed, here or before.
-pub(crate) fn say_not_opened<E: ByteOut>(
+fn read_from(file: &mut File, start: u64, text: &mut Vec<u8>) -> Result<usize, io::Error> {
+    file.seek(SeekFrom::Start(start))?;
+    file.read_to_end(text)
+}
+
+/// Writes why the file with this name, which this option names, was not opened, with the system's
+/// reason beneath it, and returns the exit status. `AllocError`: an allocation failed, here or
+/// before.
+pub(crate) fn say_refused<E: ByteOut>(
+    alloc: Global,
+    option: FileOption,
+    name: &str,
+    fault: ReportFileFault,
+    err: &mut E,
+) -> Result<Exit, AllocError>
+    ensures { IfOk result (λ end. end ≡ exit_of_report_file fault) }
+{
+    let exit = say_not_opened(alloc, option, name, fault, err)?;
+    if let ReportFileFault::Open(reason) | ReportFileFault::Mend(reason) = fault {
+        let _ = say(err, &reason_line(alloc, reason)?);
+    }
+    Ok(exit)
+}
+
+// Writes why the file was not opened, and returns the exit status.
+fn say_not_opened<E: ByteOut>(
     alloc: Global,
     option: FileOption,
     name: &str,
@@ -247,8 +268,8 @@ pub(crate) fn say_not_opened<E: ByteOut>(
     ensures exit { IfOk result (λ end. end ≡ exit_of_report_file fault) }
 {
     match fault {
-        ReportFileFault::Open => say_failed(alloc, name, b"create", err),
-        ReportFileFault::Mend => say_failed(alloc, name, b"append", err),
+        ReportFileFault::Open(_) => say_failed(alloc, name, b"create", err),
+        ReportFileFault::Mend(_) => say_failed(alloc, name, b"append", err),
         ReportFileFault::Input => Ok(say_usage(not_apart(option), err)),
         ReportFileFault::Content => Ok(say_usage(not_empty(option), err)),
         ReportFileFault::Memory => Err(AllocError),

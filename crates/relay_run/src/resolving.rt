@@ -3,8 +3,8 @@ ghost use Rattle.std.specs.Prelude.{◌≡◌, IfOk, OnOk};
 ghost use Rattle.relay_run.specs.Resolving.{unknown_text};
 ghost use Rattle.relay_run.specs.Saying.{IsSaid};
 
-use crate::files::say;
 use crate::leasing::Seconds;
+use crate::saying::say;
 use relay_action::ByteOut;
 use relay_epoch::Patience;
 use relay_words::Exit;

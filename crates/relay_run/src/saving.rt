@@ -3,7 +3,7 @@ ghost use Rattle.std.specs.Prelude.{◌≡◌, IfOk, OnOk, OnErr};
 ghost use Rattle.relay_run.specs.Saying.{IsSaid, SaysSaved, file_failed_text};
 
 use crate::faults::worse;
-use crate::files::say;
+use crate::saying::say;
 use relay_action::ByteOut;
 use relay_words::Exit;
 use std::alloc::{AllocError, Global};

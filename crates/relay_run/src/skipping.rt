@@ -3,7 +3,7 @@ ghost use Rattle.std.specs.Prelude.{◌≡◌, IfOk, OnOk, OnErr, vec_len};
 ghost use Rattle.relay_run.specs.LeavingOut.{SaysIf, SaysLeftOut, left_out_text};
 
 use crate::faults::worse;
-use crate::files::say;
+use crate::saying::say;
 use relay_action::{ByteIn, ByteOut};
 use relay_sift::{SharedNotes, Sifted};
 use relay_words::{Exit, add_number};

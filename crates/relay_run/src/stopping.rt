@@ -7,7 +7,7 @@ ghost use Rattle.relay_run.specs.Stopping.{stop_by, stop_text};
 
 use crate::faults::worse;
 use crate::feed::FeedFault;
-use crate::files::say;
+use crate::saying::say;
 use relay_action::ByteOut;
 use relay_core::Cause;
 use relay_progress::Shared;

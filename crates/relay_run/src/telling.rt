@@ -3,7 +3,7 @@ ghost use Rattle.std.specs.Prelude.{◌≡◌, ◌++◌, ◌∷◌, [], IfOk, On
 ghost use Rattle.relay_run.specs.Saving.{IsExactly, KeepsOneMore, AreUnwritten, AreNew, SayFailed};
 ghost use Rattle.relay_run.specs.Saving.{AllKeep};
 
-use crate::files::say;
+use crate::saying::say;
 use crate::stopping::{SharedStop, share_stop};
 use http_server::Log;
 use relay_action::ByteOut;

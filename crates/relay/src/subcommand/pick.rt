@@ -1,5 +1,6 @@
 //! `relay pick`.
-use crate::report::{out_of_memory, said};
+use crate::noted::{NotedFile, Reason, open_noted};
+use crate::report::{failed, out_of_memory, said};
 use clap::{Arg, ArgAction, ArgMatches, Command};
 use relay_action::StdStream;
 use relay_ndjson::LineKind;
@@ -8,7 +9,6 @@ use relay_report::{
 };
 use relay_words::{Exit, exit_of_kind};
 use std::alloc::{AllocError, Global};
-use std::fs::File;
 use std::io;
 
 const ABOUT: &str = "Extracts the operations that a report of `relay run` names from its files";
@@ -86,7 +86,8 @@ pub fn execute<R: Print + Eprint + AllocGlobal>(
 ) -> Exit {
     let report = matches.get_str("report").unwrap_or("");
     let mut names = Vec::new(rt.alloc());
-    let read = match names_of(rt, host, report, &mut names) {
+    let reason = Reason::new();
+    let read = match names_of(rt, host, report, &reason, &mut names) {
         Ok(read) => read,
         Err(exit) => return exit,
     };
@@ -100,7 +101,7 @@ pub fn execute<R: Print + Eprint + AllocGlobal>(
     match (done, read) {
         (Err(exit), _) => exit,
         (Ok(()), Ok(())) => Exit::Done,
-        (Ok(()), Err(fault)) => report_fault(rt, report, fault),
+        (Ok(()), Err(fault)) => report_fault(rt, report, fault, &reason),
     }
 }
 
@@ -109,13 +110,11 @@ fn names_of<R: Eprint + AllocGlobal>(
     rt: &R,
     host: HostRuntime,
     path: &str,
+    reason: &Reason,
     names: &mut Vec<Named>,
 ) -> Result<Result<(), ReportFault>, Exit> {
     names.clear();
-    let mut report = match File::open(&host, path) {
-        Ok(file) => StdStream::new(file),
-        Err(_) => return Err(said(rt, path, "open failed", Exit::Device)),
-    };
+    let mut report = StdStream::new(open_noted(rt, host, path, reason)?);
     Ok(read_names(rt.alloc(), &mut report, names))
 }
 
@@ -129,11 +128,12 @@ fn pick_current<R: Print + Eprint + AllocGlobal>(
     index: Option<&str>,
     report: &str,
 ) -> Result<(), Exit> {
-    let inputs = open_files(rt, host, files)?;
+    let reason = Reason::new();
+    let inputs = open_files(rt, host, files, &reason)?;
     let Ok(kept) = current_names(rt.alloc(), names, inputs, index) else {
         return Err(out_of_memory(rt));
     };
-    all_were_read(rt, files, &kept.ends)?;
+    all_were_read(rt, files, &kept.ends, &reason)?;
     pick_all(rt, host, &kept.names, files, index, report)?;
     let left_out = kept.found.saturating_sub(kept.names.len());
     if left_out > 0 {
@@ -146,17 +146,16 @@ fn pick_current<R: Print + Eprint + AllocGlobal>(
 }
 
 // Opens the files, which are read twice.
-fn open_files<R: Eprint + AllocGlobal>(
+fn open_files<'a, R: Eprint + AllocGlobal>(
     rt: &R,
     host: HostRuntime,
     files: &[&str],
-) -> Result<Vec<StdStream<File>>, Exit> {
+    reason: &'a Reason,
+) -> Result<Vec<StdStream<NotedFile<'a>>>, Exit> {
     let mut inputs = Vec::new(rt.alloc());
     for path in files {
-        let Ok(file) = File::open(&host, path) else {
-            return Err(said(rt, path, "open failed", Exit::Device));
-        };
-        if !is_regular(&file) {
+        let file = open_noted(rt, host, path, reason)?;
+        if !file.is_regular() {
             let text = "not a regular file, and only --all reads a file once";
             return Err(said(rt, path, text, Exit::Device));
         }
@@ -167,18 +166,16 @@ fn open_files<R: Eprint + AllocGlobal>(
     Ok(inputs)
 }
 
-fn is_regular(file: &File) -> bool {
-    match file.metadata() {
-        Ok(metadata) => metadata.is_file(),
-        Err(_) => false,
-    }
-}
-
 // Prints the first failed read, if there is one.
-fn all_were_read<R: Eprint>(rt: &R, files: &[&str], ends: &[InputEnd]) -> Result<(), Exit> {
+fn all_were_read<R: Eprint>(
+    rt: &R,
+    files: &[&str],
+    ends: &[InputEnd],
+    reason: &Reason,
+) -> Result<(), Exit> {
     for (path, end) in files.iter().zip(ends) {
         if end.fault.is_some_and(|fault| fault.kind == LineKind::Read) {
-            return Err(said(rt, path, "read failed", Exit::Device));
+            return Err(failed(rt, path, "read failed", reason.get().copied()));
         }
     }
     Ok(())
@@ -240,17 +237,15 @@ fn pick_all<R: Print + Eprint + AllocGlobal>(
     let mut counts = Vec::new(rt.alloc());
     let mut producer = 0u32;
     for path in files {
-        let Ok(file) = File::open(&host, path) else {
-            return Err(said(rt, path, "open failed", Exit::Device));
-        };
-        let mut input = StdStream::new(file);
+        let reason = Reason::new();
+        let mut input = StdStream::new(open_noted(rt, host, path, &reason)?);
         match pick(rt.alloc(), names, producer, &mut input, index, &mut writer) {
             Ok(count) => {
                 if counts.push(count).is_err() {
                     return Err(out_of_memory(rt));
                 }
             }
-            Err(fault) => return Err(file_fault(rt, path, fault)),
+            Err(fault) => return Err(file_fault(rt, path, fault, &reason)),
         }
         producer = producer.saturating_add(1);
     }
@@ -258,10 +253,10 @@ fn pick_all<R: Print + Eprint + AllocGlobal>(
 }
 
 // Prints the fault of a file. If that fails, the exit status is the same.
-fn file_fault<R: Eprint>(rt: &R, path: &str, fault: PickFault) -> Exit {
+fn file_fault<R: Eprint>(rt: &R, path: &str, fault: PickFault, reason: &Reason) -> Exit {
     match fault {
         PickFault::Input(fault) if fault.kind == LineKind::Read => {
-            said(rt, path, "read failed", Exit::Device)
+            failed(rt, path, "read failed", reason.get().copied())
         }
         PickFault::Input(fault) => {
             let _ = eprintln!(rt; "{path}: {fault}");
@@ -276,13 +271,13 @@ fn file_fault<R: Eprint>(rt: &R, path: &str, fault: PickFault) -> Exit {
 }
 
 // Prints what is wrong with the report.
-fn report_fault<R: Eprint>(rt: &R, path: &str, fault: ReportFault) -> Exit {
+fn report_fault<R: Eprint>(rt: &R, path: &str, fault: ReportFault, reason: &Reason) -> Exit {
     match fault {
         ReportFault::BadLine { line } => {
             let _ = eprintln!(rt; "{path}: line {line}: BadLine");
             Exit::Input
         }
-        ReportFault::Read => said(rt, path, "read failed", Exit::Device),
+        ReportFault::Read => failed(rt, path, "read failed", reason.get().copied()),
         ReportFault::Memory => out_of_memory(rt),
     }
 }

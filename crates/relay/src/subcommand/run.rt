@@ -9,7 +9,8 @@ use relay_core::config::{
 };
 use relay_pace::TICK;
 use relay_progress::Log;
-use relay_run::files::{RunOptions, run_files};
+use relay_run::files::run_files;
+use relay_run::options::RunOptions;
 use relay_run::report_file::{NOT_APART, NOT_APART_LEFT_OUT};
 use relay_run::run::{Limits, RelayConfig};
 use relay_target::{AddressFault, read_address, read_name};

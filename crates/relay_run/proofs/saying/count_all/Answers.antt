@@ -1,6 +1,6 @@
 use Rattle.std.specs.Vec.Iter.{into_iter_items}
 use Rattle.relay_run.proofs.Texts.{total_on, reports_on}
-use Rattle.relay_run.proofs.files.count_all.Goals as goal
+use Rattle.relay_run.proofs.saying.count_all.Goals as goal
 
 pub loop-lane-preserved : goal.loop-lane-preserved
 loop-lane-preserved g c =

@@ -6,7 +6,7 @@ use Rattle.relay_words.specs.declared.exit.Exit.TheVariants as exit
 use Rattle.relay_run.specs.Faults.{faults_text, exit_of_files}
 use Rattle.relay_run.specs.Saying.{Written, IsSaid}
 use Rattle.relay_run.proofs.Said.{is_said, concludes_fault, concludes_summary}
-use Rattle.relay_run.proofs.files.conclude.Goals as goal
+use Rattle.relay_run.proofs.saying.conclude.Goals as goal
 
 pub returns : goal.returns
 returns g c =

@@ -1,6 +1,6 @@
 use Rattle.std.proofs.Common.{◌≡◌, ◌++◌}
 use Rattle.std.specs.Vec.Iter.{into_iter_items}
-use Rattle.relay_run.proofs.files.count_wires.Given as goal
+use Rattle.relay_run.proofs.wiring.count_wires.Given as goal
 
 -- those that are counted, and then those that are left
 abbrev pub invariant-loop-wire : goal.invariant-loop-wire

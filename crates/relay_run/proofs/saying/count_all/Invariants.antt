@@ -1,7 +1,7 @@
 use Rattle.std.proofs.Common.{◌≡◌, ◌++◌}
 use Rattle.std.specs.Vec.Iter.{into_iter_items}
 use Rattle.relay_run.specs.Outcomes.{total, reports_of}
-use Rattle.relay_run.proofs.files.count_all.Given as goal
+use Rattle.relay_run.proofs.saying.count_all.Given as goal
 
 -- what was counted, and then what is left
 abbrev pub invariant-loop-lane : goal.invariant-loop-lane

@@ -3,7 +3,7 @@ use Rattle.std.specs.Prelude.{string_bytes}
 use Rattle.std.proofs.lemmas.List.{length-map, get_or-map}
 use Rattle.relay_run.specs.Faults.{said_of, worse_by}
 use Rattle.relay_run.proofs.Texts.{said_on, exit_on}
-use Rattle.relay_run.proofs.files.faults_text.Goals as goal
+use Rattle.relay_run.proofs.saying.faults_text.Goals as goal
 
 pub loop-place-preserved : goal.loop-place-preserved
 loop-place-preserved c =

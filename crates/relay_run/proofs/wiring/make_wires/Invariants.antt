@@ -3,7 +3,7 @@ use Rattle.std.specs.Prelude.{string_bytes}
 use Rattle.relay_threads.specs.Relay.{NoneOut}
 use Rattle.relay_wires.specs.Numbers.{numbers}
 use Rattle.relay_run.specs.Wires.{AreNewWires}
-use Rattle.relay_run.proofs.files.make_wires.Given as goal
+use Rattle.relay_run.proofs.wiring.make_wires.Given as goal
 
 abbrev pub invariant-lanes : goal.invariant-lanes
 invariant-lanes l = record {

@@ -2,7 +2,7 @@ use Rattle.std.proofs.Common.{◌≡◌, ◌++◌, drop, map}
 use Rattle.std.specs.Prelude.{string_bytes}
 use Rattle.relay_words.specs.declared.exit.Exit.TheVariants as exit
 use Rattle.relay_run.specs.Faults.{faults_text, exit_of_files}
-use Rattle.relay_run.proofs.files.faults_text.Given as goal
+use Rattle.relay_run.proofs.saying.faults_text.Given as goal
 
 -- what was said, and then what is left to say
 abbrev pub invariant-loop-place : goal.invariant-loop-place
