@@ -17,7 +17,7 @@ documents_seen f [] = refl
 documents_seen f (h ∷ hs) = ap (λ ds. document_of h.key ∷ ds) (documents_seen f hs)
 
 -- at most one more look at each
-pub looked_most : (i : Inside) (now : Seen) (looks : ℕ) → view_of i ≡ now → looks ≤ i.looks + distinct (documents i.held.list) → looks ≤ looks_after now
+pub looked_most : (i : Inside) (now : Seen) (looks : ℕ) → view_of i ≡ now → looks ≤ i.held.looks + distinct (documents i.held.list) → looks ≤ looks_after now
 looked_most i now looks view le =
-    let same : i.looks + distinct (documents i.held.list) ≡ looks_after now = ap (λ ds. i.looks + distinct ds) (sym (documents_seen (writes_in i.flight.requests) i.held.list)) ∙ ap looks_after view in
+    let same : i.held.looks + distinct (documents i.held.list) ≡ looks_after now = ap (λ ds. i.held.looks + distinct ds) (sym (documents_seen (writes_in i.flight.requests) i.held.list)) ∙ ap looks_after view in
     omega (arith, le, same)

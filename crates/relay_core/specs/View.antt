@@ -31,7 +31,7 @@ state_of a = record {
 }
 
 abbrev pub view_of : Inside → Seen
-view_of a = record { state = state_of a; looks = a.looks }
+view_of a = record { state = state_of a; looks = a.held.looks }
 
 pub record IsSound (a : Inside) : Type 0 where
   pub readable : IsReadable a.config.attempts a.flight.next a.held.list a.flight.requests

@@ -34,23 +34,9 @@ pub struct Gathered {
     pub closed: bool,
 }
 
-// Counts one more look; the count saturates.
-fn look(looks: &mut u64)
-    ensures most { looks.new ≤ looks.old + 1 }
-    ensures rise { looks.old ≤ looks.new }
-    ensures one { min (looks.old + 1) 18446744073709551615 ≤ looks.new }
-{
-    *looks = looks.saturating_add(1);
-}
-
-/// Offers the candidates in ascending order of version until one is Closed or none is left. Each
-/// offer is a look.
-pub(crate) fn gather(
-    alloc: Global,
-    held: &mut Held,
-    limits: Limits,
-    looks: &mut u64,
-) -> Result<Gathered, AllocError>
+/// Offers the candidates in ascending order of version until one is Closed or none is left. Only
+/// [`Held::candidate`] returns a candidate, and it counts each one as a look.
+pub(crate) fn gather(alloc: Global, held: &mut Held, limits: Limits) -> Result<Gathered, AllocError>
     ensures batch { IfOk result
         (λ g. g.batcher
         ≡ gathering_after (items_of_kept held.old.list held.old.clock held.old.list)
@@ -61,18 +47,18 @@ pub(crate) fn gather(
         (λ g. g.closed
         ≡ closes (items_of_kept held.old.list held.old.clock held.old.list)
         (record { limits = limits; items = [] })) }
-    ensures held { held.new ≡ held.old }
-    ensures looks { looks.new ≤ looks.old + distinct (documents held.old.list) }
-    ensures looks_rise { looks.old ≤ looks.new }
+    ensures held { held.new ≡ record held.old { looks = held.new.looks } }
+    ensures looks { held.new.looks ≤ held.old.looks + distinct (documents held.old.list) }
+    ensures looks_rise { held.old.looks ≤ held.new.looks }
     ensures looked { IfOk result
-        (λ g. min (looks.old + length g.batcher.items) 18446744073709551615 ≤ looks.new) }
+        (λ g. min (held.old.looks + length g.batcher.items) 18446744073709551615
+        ≤ held.new.looks) }
 {
     let mut batcher = Batcher::new(alloc, limits);
     'candidates: for at in 0..held.documents() {
         let Some(one) = held.candidate(at)? else {
             break;
         };
-        look(looks);
         match batcher.offer(item_of(one))? {
             Offer::Closed => {
                 return Ok(Gathered {
@@ -165,7 +151,6 @@ pub(crate) fn due_batch(
     mark: u64,
     all_closed: bool,
     limits: Limits,
-    looks: &mut u64,
 ) -> Result<Due, AllocError>
     ensures batch { IfOk result
         (λ d. d.batch
@@ -176,13 +161,14 @@ pub(crate) fn due_batch(
         (items_of_kept held.old.list held.old.clock held.old.list) d.room) }
     ensures err { OnErr result
         (0 < length (items_of_kept held.old.list held.old.clock held.old.list)) }
-    ensures held { held.new ≡ held.old }
-    ensures looks { looks.new ≤ looks.old + distinct (documents held.old.list) }
-    ensures looks_rise { looks.old ≤ looks.new }
+    ensures held { held.new ≡ record held.old { looks = held.new.looks } }
+    ensures looks { held.new.looks ≤ held.old.looks + distinct (documents held.old.list) }
+    ensures looks_rise { held.old.looks ≤ held.new.looks }
     ensures looked { IfOk result
-        (λ d. IfSome d.batch (λ b. min (looks.old + length b) 18446744073709551615 ≤ looks.new)) }
+        (λ d. IfSome d.batch (λ b. min (held.old.looks + length b) 18446744073709551615
+        ≤ held.new.looks)) }
 {
-    let Gathered { batcher, closed } = gather(alloc, held, limits, looks)?;
+    let Gathered { batcher, closed } = gather(alloc, held, limits)?;
     let is_ready = batcher.ready(held.clock());
     let room = batcher.room();
     let Some(batch) = batcher.close() else {

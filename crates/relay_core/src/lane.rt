@@ -58,8 +58,6 @@ pub struct Lane {
     reports: Vec<Report>,
     // Those that ended as applied and were not forgotten yet.
     successes: Vec<Success>,
-    // How many held operations `request` has looked at, to see whether they may be sent.
-    looks: u64,
 }
 
 impl Model for Lane {
@@ -116,7 +114,6 @@ impl Lane {
             flight: Flight::new(alloc, config.in_flight)?,
             reports: Vec::new(alloc),
             successes: Vec::new(alloc),
-            looks: 0,
         })
     }
 
@@ -248,7 +245,7 @@ impl Lane {
     pub fn looks(&self) -> u64
         ensures { result ≡ self.now.looks }
     {
-        self.looks
+        self.held.looks()
     }
 
     /// Whether each sender has closed and nothing is held.
@@ -402,7 +399,6 @@ impl Lane {
             self.mark,
             all_closed,
             self.config.limits,
-            &mut self.looks,
         )?;
         let Some(batch) = batch else {
             self.room = room;

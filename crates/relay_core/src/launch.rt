@@ -28,6 +28,7 @@ pub(crate) fn launch(held: &mut Held, number: u64, count: usize, writes: &mut Ve
         ≡ launched_kept held.old.list number 0
         (map item_of_kept (take count (candidates_kept held.old.list held.old.clock))) }
     ensures clock { held.new.clock ≡ held.old.clock }
+    ensures looks { held.new.looks ≡ held.old.looks }
     ensures writes { writes.new.items
         ≡ writes.old.items
         ++ freight held.old.list

@@ -52,6 +52,7 @@ fn report(held: &mut Held, write: Write, cause: Cause, reports: &mut Vec<Report>
         → waits_here h.flies ≡ false }
     ensures held { held.new.list ≡ without_first write.key held.old.list }
     ensures clock { held.new.clock ≡ held.old.clock }
+    ensures looks { held.new.looks ≡ held.old.looks }
     ensures reports { (h : Kept) → first_of write.key held.old.list ≡ Some h
         → map report_of reports.new.items ≡ map report_of reports.old.items ++ record {
           name =
@@ -79,6 +80,7 @@ fn succeed(held: &mut Held, write: Write, status: Option<u16>, successes: &mut V
         → waits_here h.flies ≡ false }
     ensures held { held.new.list ≡ without_first write.key held.old.list }
     ensures clock { held.new.clock ≡ held.old.clock }
+    ensures looks { held.new.looks ≡ held.old.looks }
     ensures successes { (h : Kept) → first_of write.key held.old.list ≡ Some h
         → successes.new.items ≡ successes.old.items ++ record {
           name =
@@ -106,6 +108,7 @@ fn land(held: &mut Held, write: Write, clock: u64, attempts: u32)
     ensures held { (h : Kept) → h.attempts ≡ attempts → first_of write.key held.old.list ≡ Some h
         → held.new.list ≡ with_first write.key (back clock write) held.old.list }
     ensures clock { held.new.clock ≡ held.old.clock }
+    ensures looks { held.new.looks ≡ held.old.looks }
 {
     held.land(clock.saturating_add(pause(attempts)), write);
 }
@@ -131,6 +134,7 @@ fn meet(
     ensures held { (h : Kept) → h.attempts ≡ attempts → first_of write.key held.old.list ≡ Some h
         → held.new.list ≡ after_one clock write held.old.list (said fate) }
     ensures clock { held.new.clock ≡ held.old.clock }
+    ensures looks { held.new.looks ≡ held.old.looks }
     ensures reports { (h : Kept) → first_of write.key held.old.list ≡ Some h
         → map report_of reports.new.items
         ≡ map report_of reports.old.items ++ reports_one (said fate) h write }
@@ -209,6 +213,7 @@ fn settle_one(
     ensures held { (h : Kept) → first_of write.key held.old.list ≡ Some h
         → held.new.list ≡ after_one clock write held.old.list (fate_one max whole h entry) }
     ensures clock { held.new.clock ≡ held.old.clock }
+    ensures looks { held.new.looks ≡ held.old.looks }
     ensures reports { (h : Kept) → first_of write.key held.old.list ≡ Some h
         → map report_of reports.new.items
         ≡ map report_of reports.old.items ++ reports_one (fate_one max whole h entry) h write }
@@ -288,6 +293,7 @@ pub(crate) fn settle_walk(
     ensures held { held.new.list
         ≡ kept_walk held.old.list max clock number whole writes.items outcomes.items }
     ensures clock { held.new.clock ≡ held.old.clock }
+    ensures looks { held.new.looks ≡ held.old.looks }
     ensures reports { map report_of reports.new.items
         ≡ map report_of reports.old.items
         ++ reports_walk held.old.list max number whole writes.items outcomes.items }

@@ -1,11 +1,12 @@
 -- The held list, and the queues of documents that it is made of.
-use Rattle.std.specs.Prelude.{◌≡◌, ℕ, ◌+◌, ◌<◌, List, [], ◌∷◌, Option, Some, None, unwrap_or, option_map, Bool, cond, not, ◌&&◌, nat_lt, nat_le, min, map, filter, length, drop, slice_get, if◌then◌else◌}
+use Rattle.std.specs.Prelude.{◌≡◌, ℕ, ◌+◌, ◌<◌, List, [], ◌∷◌, Option, Some, None, Result, Ok, Err, unwrap_or, option_map, Bool, cond, not, ◌&&◌, nat_lt, nat_le, min, map, filter, length, drop, slice_get, if◌then◌else◌}
 use Rattle.std.specs.List.{list_any}
 use Rattle.std.specs.Map.{lookup}
 use Rattle.relay_action.specs.declared.key.DocKey.{DocKey}
 use Rattle.relay_action.specs.declared.operation.OpName.{OpName}
 use Rattle.relay_results.specs.Documents.{Document, document_of, same_document}
 use Rattle.relay_held.specs.declared.kept.Kept.{Kept}
+use Rattle.relay_held.specs.declared.kept.Candidate.{Candidate}
 use Rattle.relay_held.specs.Operations.{waits_here}
 
 -- ---- the held list
@@ -92,10 +93,18 @@ documents hs = map (λ (h : Kept). document_of h.key) hs
 
 -- ---- what callers see
 
--- what is held, in ascending order of version, and the clock, in ticks
+-- what is held, in ascending order of version; the clock, in ticks; and how many held operations were looked at, to see
+-- whether they may be sent
 pub record Holding : Type 0 where
   pub list : List Kept
   pub clock : ℕ
+  pub looks : ℕ
+
+-- the looks after this result: one more if an operation was found; the count saturates
+abbrev pub looked : {E : Type 0} → Result (Option Candidate) E → ℕ → ℕ
+looked (Ok (Some one)) looks = if nat_lt looks 18446744073709551615 then looks + 1 else looks
+looked (Ok None) looks = looks
+looked (Err e) looks = looks
 
 -- a tick later; the clock saturates
 abbrev pub later : ℕ → ℕ

@@ -11,7 +11,7 @@ ghost use Rattle.relay_held.specs.Operations.{waits_here, launch_one, back_at, h
 ghost use Rattle.relay_held.specs.Operations.{candidate_of};
 ghost use Rattle.relay_held.specs.Queues.{AllUnder, first_of, name_in, with_first, without_first};
 ghost use Rattle.relay_held.specs.Queues.{candidates_kept, first_due_kept, is_eligible_kept, Rises};
-ghost use Rattle.relay_held.specs.Queues.{OnlyFirstsFly, documents, distinct, later};
+ghost use Rattle.relay_held.specs.Queues.{OnlyFirstsFly, documents, distinct, later, looked};
 
 use crate::documents::{Documents, Taken};
 use crate::kept::{Candidate, Kept};
@@ -34,6 +34,8 @@ pub struct Held {
     /// The first operation of each document, if it waits.
     waiting: DelayQueue,
     count: usize,
+    /// How many operations `candidate` has returned.
+    looks: u64,
 }
 
 impl Model for Held {
@@ -42,7 +44,8 @@ impl Model for Held {
 
     ghost Value = { Holding };
 
-    ghost view = { λ h. record { list = merge_of h.documents.queues; clock = h.waiting.clock } };
+    ghost view = { λ h. record
+        { list = merge_of h.documents.queues; clock = h.waiting.clock; looks = h.looks } };
 
     ghost invariant = { λ h. IsHeld h.documents h.count h.waiting };
 }
@@ -59,14 +62,15 @@ fn wait(waiting: &mut DelayQueue, entry: Option<Entry>)
 }
 
 impl Held {
-    /// Nothing held, with the clock at 0. It does not allocate.
+    /// Nothing held, with the clock and the looks at 0. It does not allocate.
     pub fn new(alloc: Global) -> Held
-        ensures { result ≡ record { list = []; clock = 0 } }
+        ensures { result ≡ record { list = []; clock = 0; looks = 0 } }
     {
         Held {
             documents: Documents::new(alloc),
             waiting: DelayQueue::new(alloc),
             count: 0,
+            looks: 0,
         }
     }
 
@@ -79,9 +83,17 @@ impl Held {
 
     /// A tick of the clock passes. The clock saturates at `u64::MAX`.
     pub fn tick(&mut self)
-        ensures { self.new ≡ record { list = self.old.list; clock = later self.old.clock } }
+        ensures { self.new ≡ record self.old { clock = later self.old.clock } }
     {
         self.waiting.tick(self.waiting.clock().saturating_add(1));
+    }
+
+    /// How many operations were looked at, to see whether they may be sent: each time that
+    /// [`Held::candidate`] returned one. The count saturates at `u64::MAX`.
+    pub fn looks(&self) -> u64
+        ensures { result ≡ self.now.looks }
+    {
+        self.looks
     }
 
     /// The number of operations held.
@@ -117,6 +129,7 @@ impl Held {
         requires few { length self.old.list < 2 ^ 32 }
         ensures ok { OnOk result (self.new.list ≡ self.old.list ++ one ∷ []) }
         ensures clock { self.new.clock ≡ self.old.clock }
+        ensures looks { self.new.looks ≡ self.old.looks }
         ensures unchanged { OnErr result (self.new ≡ self.old) }
         ensures back { IfErr result (λ e. e.one ≡ one) }
     {
@@ -130,18 +143,19 @@ impl Held {
     }
 
     /// The operation at a place of those that may be sent, in ascending order of version: each is
-    /// the first of its document, waits and is due. Nothing that contracts see changes.
-    /// `AllocError`: an allocation failed, and there is an operation at that place. Ask for 0, 1,
-    /// 2, .. in turn.
+    /// the first of its document, waits and is due. If there is one, this is one more look; nothing
+    /// else that contracts see changes. `AllocError`: an allocation failed, and there is an
+    /// operation at that place, which was not looked at. Ask for 0, 1, 2, .. in turn.
     pub fn candidate(&mut self, at: usize) -> Result<Option<Candidate>, AllocError>
         ensures found { IfOk result (λ c. c ≡ option_map candidate_of
             (slice_get (candidates_kept self.old.list self.old.clock) at)) }
         ensures err { OnErr result (at < length (candidates_kept self.old.list self.old.clock)) }
-        ensures same { self.new ≡ self.old }
+        ensures same { self.new ≡ record self.old { looks = looked result self.old.looks } }
     {
         let Some(entry) = self.waiting.due_at(at)? else {
             return Ok(None);
         };
+        self.looks = self.looks.saturating_add(1);
         Ok(self.documents.candidate(entry.slot))
     }
 
@@ -155,6 +169,7 @@ impl Held {
             → slice_get (candidates_kept self.old.list self.old.clock) 0 ≡ Some h
             → result ≡ h.write }
         ensures clock { self.new.clock ≡ self.old.clock }
+        ensures looks { self.new.looks ≡ self.old.looks }
     {
         match self.waiting.take_due() {
             Some(entry) => self.documents.launch(entry.slot, number, place),
@@ -169,6 +184,7 @@ impl Held {
             → waits_here h.flies ≡ false }
         ensures list { self.new.list ≡ with_first write.key (back_at due write) self.old.list }
         ensures clock { self.new.clock ≡ self.old.clock }
+        ensures looks { self.new.looks ≡ self.old.looks }
     {
         let entry = self.documents.land(due, write);
         wait(&mut self.waiting, entry);
@@ -182,6 +198,7 @@ impl Held {
         ensures list { self.new.list
             ≡ with_first write.key (halved_at due cap write) self.old.list }
         ensures clock { self.new.clock ≡ self.old.clock }
+        ensures looks { self.new.looks ≡ self.old.looks }
     {
         let entry = self.documents.halve(due, cap, write);
         wait(&mut self.waiting, entry);
@@ -195,6 +212,7 @@ impl Held {
         ensures list { self.new.list ≡ without_first key.now self.old.list }
         ensures name { result ≡ name_in (first_of key.now self.old.list) }
         ensures clock { self.new.clock ≡ self.old.clock }
+        ensures looks { self.new.looks ≡ self.old.looks }
     {
         let Taken { name, next } = self.documents.take(key)?;
         wait(&mut self.waiting, next);

@@ -39,9 +39,9 @@ under_either (Ok u) v old new x e a b under = subst (AllUnder (v + 1)) (sym a) (
 under_either (Err f) v old new x e a b under = subst (λ (s : Holding). AllUnder (v + 1) s.list) (sym b) (under_more v old.list under)
 
 -- the first that may be sent is sent
-pub under_launch : (v number place : ℕ) (old mid new : Holding) (x : Candidate) → mid ≡ old → Some x ≡ option_map candidate_of (slice_get (candidates_kept old.list old.clock) 0)
+pub under_launch : (v number place looks : ℕ) (old mid new : Holding) (x : Candidate) → mid ≡ record old { looks = looks } → Some x ≡ option_map candidate_of (slice_get (candidates_kept old.list old.clock) 0)
     → ((h : Kept) → slice_get (candidates_kept mid.list mid.clock) 0 ≡ Some h → new.list ≡ with_first h.key (launch_one number place) mid.list) → AllUnder v old.list → AllUnder v new.list
-under_launch v number place old mid new x same found sent under = by (slice_get (candidates_kept old.list old.clock) 0) refl found
+under_launch v number place looks old mid new x same found sent under = by (slice_get (candidates_kept old.list old.clock) 0) refl found
   where
     by : (o : Option Kept) → slice_get (candidates_kept old.list old.clock) 0 ≡ o → Some x ≡ option_map candidate_of o → AllUnder v new.list
     by None is e = absurd (cc)

@@ -87,10 +87,10 @@ fn three(alloc: Global) -> Option<Desk> {
 fn who_may_be_sent(rt: HostRuntime) -> Result<(), Fail> {
     let mut desk = three(rt.alloc()).ok_or("not held")?;
     assert!(rt; desk.held.len() == 3 && desk.held.documents() == 2);
-    for (clock, wanted) in [(0, [1, 0]), (4, [1, 0]), (5, [1, 3])] {
+    for (clock, wanted, looks) in [(0, [1, 0], 1), (4, [1, 0], 2), (5, [1, 3], 4)] {
         ticks_to(&mut desk, clock);
         assert!(rt; desk.held.clock() == clock && desk.held.due_in() == Some(0));
-        assert!(rt; offered(&mut desk) == wanted);
+        assert!(rt; offered(&mut desk) == wanted && desk.held.looks() == looks);
     }
     Ok(())
 }

@@ -7,11 +7,11 @@ use Rattle.relay_core.proofs.gather.gather.Given as goal
 
 abbrev pub invariant-candidates : goal.invariant-candidates
 invariant-candidates l = record {
-  held : l.held ≡ l.fn.held;
+  held : l.held ≡ record l.fn.held { looks = l.held.looks };
   within : l.at ≤ length (candidates_kept l.fn.held.list l.fn.held.clock);
-  looks : l.looks ≤ l.fn.looks + l.at;
-  rise : l.fn.looks ≤ l.looks;
-  looked : min (l.fn.looks + length l.batcher.items) 18446744073709551615 ≤ l.looks;
+  looks : l.held.looks ≤ l.fn.held.looks + l.at;
+  rise : l.fn.held.looks ≤ l.held.looks;
+  looked : min (l.fn.held.looks + length l.batcher.items) 18446744073709551615 ≤ l.held.looks;
   batch : gathering_after (map item_of_kept (drop l.at (candidates_kept l.fn.held.list l.fn.held.clock))) l.batcher ≡ gathering_after (items_of_kept l.fn.held.list l.fn.held.clock l.fn.held.list) (record { limits = l.fn.limits; items = [] });
   closed : closes (map item_of_kept (drop l.at (candidates_kept l.fn.held.list l.fn.held.clock))) l.batcher ≡ closes (items_of_kept l.fn.held.list l.fn.held.clock l.fn.held.list) (record { limits = l.fn.limits; items = [] });
 }

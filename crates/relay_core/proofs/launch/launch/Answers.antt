@@ -45,6 +45,7 @@ places-preserved c =
     record {
       rises = subst Rises (sym list) (rises_with k f c.places.held.list (launch_keeps c.args.number i) v.rises);
       clock = clock ∙ v.clock;
+      looks = c.launch.ensures.looks ∙ v.looks;
       left = (λ j. candidates_kept (list j) (clock j)) ∙ candidates_next c.places.held.list c.places.held.clock c.args.number i h v.rises first ∙ ap (drop 1) v.left ∙ drop_more i cs;
       room = omega (arith, len, cap, room, lt);
       held = ap (λ zs. launched_kept zs c.args.number (i + 1) is) list ∙ sym (launched_step c.args.number i k h is waits next c.places.held.list v.rises here)

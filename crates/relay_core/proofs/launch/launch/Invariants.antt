@@ -8,6 +8,7 @@ abbrev pub invariant-places : goal.invariant-places
 invariant-places l = record {
   rises : Rises l.held.list;
   clock : l.held.clock ≡ l.fn.held.clock;
+  looks : l.held.looks ≡ l.fn.held.looks;
   left : candidates_kept l.held.list l.held.clock ≡ drop l.place (candidates_kept l.fn.held.list l.fn.held.clock);
   room : vec_len l.writes + (l.count - l.place) ≤ vec_capacity l.writes;
   held : launched_kept l.held.list l.number l.place (map item_of_kept (take (l.count - l.place) (drop l.place (candidates_kept l.fn.held.list l.fn.held.clock)))) ≡ launched_kept l.fn.held.list l.number 0 (map item_of_kept (take l.count (candidates_kept l.fn.held.list l.fn.held.clock)));

@@ -29,6 +29,7 @@ writes-init c =
     let room = c.requires.room in
     record {
       clock = refl;
+      looks = refl;
       carries = (0, cs);
       counted = omega (arith, few, most);
       room = room;
@@ -101,6 +102,7 @@ writes-preserved c =
     let more = v.more in
     record {
       clock = c.settle_one.ensures.clock ∙ v.clock;
+      looks = c.settle_one.ensures.looks ∙ v.looks;
       carries = (t.carries.0, subst (λ xs. Carries n t.carries.0 c.settle_one.new.held.list xs) (sym r) t.carries.1);
       counted = omega (arith, sa, sb, sr, st, one, few, lr, counted);
       room = omega (arith, sl, cap, fin, fewer, room);
@@ -187,3 +189,6 @@ returns-clause-retried c =
 
 pub returns-clause-clock : goal.returns-clause-clock
 returns-clause-clock c = c.writes.invariant.clock
+
+pub returns-clause-looks : goal.returns-clause-looks
+returns-clause-looks c = c.writes.invariant.looks

@@ -10,6 +10,7 @@ use Rattle.relay_core.proofs.settle.settle_walk.Given as goal
 abbrev pub invariant-writes : goal.invariant-writes
 invariant-writes l = record {
   clock : l.held.clock ≡ l.fn.held.clock;
+  looks : l.held.looks ≡ l.fn.held.looks;
   carries : (p : ℕ) × Carries l.number p l.held.list (into_iter_items l.ahead);
   counted : (l.counts.applied + l.counts.already + l.counts.reported + l.counts.retried) + length (into_iter_items l.ahead) ≤ 65536;
   room : vec_len l.reports + length l.held.list ≤ vec_capacity l.reports;

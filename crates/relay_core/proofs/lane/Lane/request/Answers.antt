@@ -64,10 +64,10 @@ returns-in_err-batch-clause-candidates c =
     err_holds c.from_residual.result _ (subst (λ (s : State). 0 < length (candidates s.core)) (ap (λ (v : Seen). v.state) c.self.view_is) (let some = c.in_err-batch.ensures.err in omega (arith, some, n, m)))
 
 -- what is held is the same, and only the looks and the room differ
-sound_still : (i : Inside) (h : Holding) (looks : ℕ) (room : Room) → h ≡ i.held → IsSound i
+sound_still : (i : Inside) (h : Holding) (room : Room) → h ≡ record i.held { looks = h.looks } → IsSound i
     → (is_roomy room ≡ true → IsQuiet i.held.clock i.mark (list_all (λ (b : Bool). b) i.closed.items) i.config.limits (items_of_kept i.held.list i.held.clock i.held.list) room)
-    → IsSound (record i { held = h; looks = looks; room = room })
-sound_still i h looks room same v quiet = subst (λ (x : Holding). IsSound (record i { held = x; looks = looks; room = room })) (sym same) (record {
+    → IsSound (record i { held = h; room = room })
+sound_still i h room same v quiet = subst (λ (x : Holding). IsSound (record i { held = x; room = room })) (sym same) (record {
   readable = v.readable;
   under = v.under;
   flight = v.flight;
@@ -92,7 +92,7 @@ sound_still i h looks room same v quiet = subst (λ (x : Holding). IsSound (reco
 pub invariant_of-self-in_default : goal.invariant_of-self-in_default
 invariant_of-self-in_default c =
     let a = c.self.inside in
-    sound_still a c.due_batch.new.held c.due_batch.new.looks c.in_ok-batch.field-0.room c.in_ok-batch.ensures.held c.self.invariant
+    sound_still a c.due_batch.new.held c.in_ok-batch.field-0.room c.in_ok-batch.ensures.held c.self.invariant
     (λ roomy. subst (λ (b : Bool). IsQuiet a.held.clock a.mark b a.config.limits (items_of_kept a.held.list a.held.clock a.held.list) c.in_ok-batch.field-0.room) (c.closed-all_closed.ensures ∙ ap all_closed (sym (ap (λ (v : Seen). v.state) c.self.view_is)))
     (c.in_ok-batch.ensures.quiet roomy))
 
@@ -275,16 +275,16 @@ invariant_of-self-2 c =
     }
 
 pub returns-in_err-batch-clause-looks : goal.returns-in_err-batch-clause-looks
-returns-in_err-batch-clause-looks c = looked_most c.self.inside c.args.self.now c.due_batch.new.looks c.self.view_is c.in_err-batch.ensures.looks
+returns-in_err-batch-clause-looks c = looked_most c.self.inside c.args.self.now c.due_batch.new.held.looks c.self.view_is c.in_err-batch.ensures.looks
 
 pub returns-in_default-clause-looks : goal.returns-in_default-clause-looks
-returns-in_default-clause-looks c = looked_most c.self.inside c.args.self.now c.due_batch.new.looks c.self.view_is c.in_ok-batch.ensures.looks
+returns-in_default-clause-looks c = looked_most c.self.inside c.args.self.now c.due_batch.new.held.looks c.self.view_is c.in_ok-batch.ensures.looks
 
 pub returns-in_err-writes-clause-looks : goal.returns-in_err-writes-clause-looks
-returns-in_err-writes-clause-looks c = looked_most c.self.inside c.args.self.now c.due_batch.new.looks c.self.view_is c.in_ok-batch.ensures.looks
+returns-in_err-writes-clause-looks c = looked_most c.self.inside c.args.self.now c.due_batch.new.held.looks c.self.view_is c.in_ok-batch.ensures.looks
 
 pub returns-clause-looks : goal.returns-clause-looks
-returns-clause-looks c = looked_most c.self.inside c.args.self.now c.due_batch.new.looks c.self.view_is c.in_ok-batch.ensures.looks
+returns-clause-looks c = looked_most c.self.inside c.args.self.now c.launch.new.held.looks c.self.view_is (let l = c.launch.ensures.looks in let b = c.in_ok-batch.ensures.looks in omega (arith, l, b))
 
 pub returns-clause-looks_sent : goal.returns-clause-looks_sent
 returns-clause-looks_sent c =
@@ -292,6 +292,7 @@ returns-clause-looks_sent c =
     let closed = c.closed-all_closed.ensures ∙ ap all_closed (sym (ap (λ (v : Seen). v.state) c.self.view_is)) in
     let batch = batch_now (state_of i) (writes_in i.flight.requests) i.held.list c.closed-all_closed.result c.in_ok-batch.field-0.batch refl closed (omega (arith, c.flying.ensures, c.if-flying-self.false, length-map i.flight.requests numbered_batch)) c.in_ok-batch.ensures.batch in
     let next : Some c.in-Some.batch ≡ next_batch c.args.self.now.state = sym c.in-Some.is ∙ batch ∙ ap next_batch (ap (λ (v : Seen). v.state) c.self.view_is) in
-    let least : min (i.looks + length c.in-Some.batch) 18446744073709551615 ≤ c.due_batch.new.looks = subst (λ o. IfSome o (λ (b : List BatchItem). min (i.looks + length b) 18446744073709551615 ≤ c.due_batch.new.looks)) c.in-Some.is c.in_ok-batch.ensures.looked in
-    let same : looked_at_least c.args.self.now ≡ min (i.looks + length c.in-Some.batch) 18446744073709551615 = λ j. min (sym (ap (λ (v : Seen). v.looks) c.self.view_is) j + length (unwrap_or (sym next j) [])) 18446744073709551615 in
-    omega (arith, least, same)
+    let least : min (i.held.looks + length c.in-Some.batch) 18446744073709551615 ≤ c.due_batch.new.held.looks = subst (λ o. IfSome o (λ (b : List BatchItem). min (i.held.looks + length b) 18446744073709551615 ≤ c.due_batch.new.held.looks)) c.in-Some.is c.in_ok-batch.ensures.looked in
+    let same : looked_at_least c.args.self.now ≡ min (i.held.looks + length c.in-Some.batch) 18446744073709551615 = λ j. min (sym (ap (λ (v : Seen). v.looks) c.self.view_is) j + length (unwrap_or (sym next j) [])) 18446744073709551615 in
+    let kept = c.launch.ensures.looks in
+    omega (arith, least, same, kept)
