@@ -99,27 +99,26 @@ fn take_outcome<'t>(alloc: Global, bytes: &'t [u8], outcomes: &mut Vec<Outcome>)
         × (outcomes.new.items ≡ outcomes.old.items ++ outcome_of e ∷ [])) }
 {
     let (entry, rest) = take_entry(bytes)?;
-    let outcome = outcome(alloc, &entry)?;
+    let status = valid_status(entry.place.status)?;
+    let id = Text::new(alloc, entry.document.id).ok()?;
+    let outcome = Outcome {
+        kind: entry.document.kind,
+        id,
+        status,
+        error: None,
+    };
     outcomes.push(outcome).ok()?;
     Some(rest)
 }
 
-// The outcome of an entry, if its status is valid.
-fn outcome(alloc: Global, entry: &Entry<'_>) -> Option<Outcome>
-    ensures outcome { IfSome result (λ o. o ≡ outcome_of entry.now) }
-    ensures status { IfSome result
-        (λ o. (100 ≤ entry.now.place.status) × (entry.now.place.status ≤ 599)) }
+// The status of an entry, if it is valid.
+fn valid_status(status: u64) -> Option<u16>
+    ensures { IfSome result (λ s. (s ≡ status) × (100 ≤ status) × (status ≤ 599)) }
 {
-    let status = entry.place.status;
     if status < 100 || status > 599 {
         return None;
     }
-    Some(Outcome {
-        kind: entry.document.kind,
-        id: Text::new(alloc, entry.document.id).ok()?,
-        status: status as u16,
-        error: None,
-    })
+    Some(status as u16)
 }
 
 // The next entry, and what follows it.

@@ -2,19 +2,71 @@
 use crate::faults::FileFault;
 use crate::feed::FeedFault;
 use crate::source::Source;
-use relay_ndjson::LineKind;
-use relay_sift::{Kept, subject_kept};
+use relay_ndjson::{InputFault, LineKind};
+use relay_sift::{Kept, count_feeds, subject_kept};
 use std::alloc::{AllocError, Global};
+use std::fs::File;
 use std::io;
 use std::io::{ErrorKind, Read};
 use std::sync::{Arc, Mutex, OnceLock};
 
-/// What is known of a file that is read: why it could not be opened or read, and what was read last.
+/// What is known of a file that is read: why it could not be opened or read, and, unless it is a
+/// regular file, which can be read again, what was read last.
 #[derive(Drop)]
 pub(crate) struct FileNote {
     reason: OnceLock<ErrorKind>,
+    regular: Option<RegularFile>,
     // Only the thread that reads takes the lock, until that has ended.
     kept: Mutex<Kept>,
+}
+
+// A regular file, by its path.
+#[derive(Drop)]
+struct RegularFile {
+    host: HostRuntime,
+    path: String,
+}
+
+// The number of bytes that are read at a time.
+const PIECE: usize = 65_536;
+
+impl RegularFile {
+    // What the file has up to the end of the line with this number, from 1, as far as that can be read
+    // and is kept.
+    fn read_again(&self, alloc: Global, number: u64) -> Result<Kept, AllocError> {
+        let mut kept = Kept::new(alloc);
+        let mut piece = Vec::from_elem(alloc, 0u8, PIECE)?;
+        if let Ok(mut file) = File::open(&self.host, self.path.as_str()) {
+            keep_lines(&mut file, &mut piece, number, &mut kept);
+        }
+        Ok(kept)
+    }
+}
+
+// Reads a file in pieces until so many lines have ended, or it ends.
+fn keep_lines(file: &mut File, piece: &mut [u8], number: u64, kept: &mut Kept) {
+    let mut ended = 0u64;
+    for _piece in 0..u64::MAX {
+        let feeds = keep_piece(file, piece, kept);
+        ended = match feeds {
+            Some(feeds) => ended.saturating_add(feeds),
+            None => return,
+        };
+        if ended >= number {
+            return;
+        }
+    }
+}
+
+// Reads once, and returns how many lines have ended in what was read. `None`: nothing was.
+fn keep_piece(file: &mut File, piece: &mut [u8], kept: &mut Kept) -> Option<u64> {
+    match file.read(piece) {
+        Ok(count) if count > 0 => {
+            kept.add(&piece[..count]);
+            Some(count_feeds(&piece[..count]))
+        }
+        _ => None,
+    }
 }
 
 /// A note that two threads hold.
@@ -29,24 +81,63 @@ pub(crate) fn reason_line(alloc: Global, reason: ErrorKind) -> Result<Vec<u8>, A
 }
 
 impl FileNote {
-    /// Nothing is known yet. `AllocError`: allocation failed.
-    pub(crate) fn shared(alloc: Global) -> Result<SharedNote, AllocError> {
+    // Nothing is known yet.
+    fn shared(alloc: Global, regular: Option<RegularFile>) -> Result<SharedNote, AllocError> {
         let note = FileNote {
             reason: OnceLock::new(),
+            regular,
             kept: Mutex::new(Kept::new(alloc)),
         };
         Ok(Arc::new(alloc, note)?)
     }
 
-    /// Notes why the file could not be opened, or read. The first reason is kept.
-    pub(crate) fn fail(&self, reason: ErrorKind) {
+    /// Nothing is known yet of this source, which has this name. `AllocError`: allocation failed.
+    pub(crate) fn of_source(
+        host: HostRuntime,
+        alloc: Global,
+        name: &str,
+        source: &Source,
+    ) -> Result<SharedNote, AllocError> {
+        let regular = match source.size() {
+            Some(_) => Some(RegularFile {
+                host,
+                path: String::from_str(alloc, name)?,
+            }),
+            None => None,
+        };
+        FileNote::shared(alloc, regular)
+    }
+
+    /// What is known of a file that could not be opened. `AllocError`: allocation failed.
+    pub(crate) fn of_failed(alloc: Global, reason: ErrorKind) -> Result<SharedNote, AllocError> {
+        let note = FileNote::shared(alloc, None)?;
+        note.fail(reason);
+        Ok(note)
+    }
+
+    // Notes why the file could not be opened, or read. The first reason is kept.
+    fn fail(&self, reason: ErrorKind) {
         let _ = self.reason.try_set(reason);
     }
 
-    // Notes what was read.
+    // Notes what was read, unless it can be read again.
     fn keep(&self, piece: &[u8]) {
+        if self.regular.is_some() {
+            return;
+        }
         if let Some(mut kept) = self.kept.try_lock() {
             kept.add(piece);
+        }
+    }
+
+    // What is said beneath a fault of a line.
+    fn subject_line(&self, alloc: Global, fault: InputFault) -> Result<Vec<u8>, AllocError> {
+        if let Some(file) = &self.regular {
+            return subject_kept(alloc, fault, &file.read_again(alloc, fault.line)?);
+        }
+        match self.kept.try_lock() {
+            Some(kept) => subject_kept(alloc, fault, &*kept),
+            None => Ok(Vec::new(alloc)),
         }
     }
 
@@ -72,10 +163,7 @@ impl FileNote {
         if fault.kind == LineKind::Read {
             return self.reason_line(alloc);
         }
-        match self.kept.try_lock() {
-            Some(kept) => subject_kept(alloc, fault, &*kept),
-            None => Ok(Vec::new(alloc)),
-        }
+        self.subject_line(alloc, fault)
     }
 }
 

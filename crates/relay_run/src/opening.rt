@@ -12,16 +12,21 @@ use std::sync::Arc;
 
 // Opens the file with this name, or standard input for `-`.
 fn open_file(rt: &HostRuntime, alloc: Global, file: &str) -> Result<Opened, AllocError> {
-    let note = FileNote::shared(alloc)?;
-    let source = match open_source(rt, alloc, file) {
-        Ok(source) => Some(NotedSource::new(source, Arc::try_clone(&note)?)),
-        Err(error) if error.kind() == ErrorKind::OutOfMemory => return Err(AllocError),
-        Err(error) => {
-            note.fail(error.kind());
-            None
+    match open_source(rt, alloc, file) {
+        Ok(source) => {
+            let note = FileNote::of_source(*rt, alloc, file, &source)?;
+            let source = NotedSource::new(source, Arc::try_clone(&note)?);
+            Ok(Opened {
+                source: Some(source),
+                note,
+            })
         }
-    };
-    Ok(Opened { source, note })
+        Err(error) if error.kind() == ErrorKind::OutOfMemory => Err(AllocError),
+        Err(error) => Ok(Opened {
+            source: None,
+            note: FileNote::of_failed(alloc, error.kind())?,
+        }),
+    }
 }
 
 /// Opens the files, or standard input for `-`. `AllocError`: allocation failed.

@@ -12,7 +12,7 @@ use Rattle.relay_sift.specs.Fronts.{Begins, IsFirst}
 
 -- ---- what ends with a line feed, and what has none
 
-unbroken_parts : (x : ℕ) (xs : List ℕ) → IsUnbroken (x ∷ xs) → ((x == 10) ≡ false) × IsUnbroken xs
+pub unbroken_parts : (x : ℕ) (xs : List ℕ) → IsUnbroken (x ∷ xs) → ((x == 10) ≡ false) × IsUnbroken xs
 unbroken_parts x xs u =
     elim (decide (x == 10)) [
       | inl t ↦ (let h : true ≡ false = rw t at u in absurd (true≢false h))

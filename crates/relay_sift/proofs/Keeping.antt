@@ -6,12 +6,13 @@ use Rattle.memchr.specs.Find.{IsFirstByte, is_byte}
 use Rattle.relay_action.specs.Streams.{most}
 use Rattle.relay_ndjson.specs.Lines.{IsUnbroken}
 use Rattle.relay_ndjson.proofs.Asking.{decide}
+use Rattle.relay_ndjson.proofs.Pieces.{first_feed, nowhere_unbroken}
 use Rattle.relay_ndjson.specs.declared.kind.InputFault.{InputFault}
 use Rattle.relay_sift.specs.About.{IsSaid}
 use Rattle.relay_sift.specs.Texts.{first_of, line_feeds, line_text, lines_of, onto_first}
 use Rattle.relay_sift.specs.Keeping.{Keeping, Keeps, KeepsUnlessLost, IsFarBack, IsLineKept, IsSaidOf, bytes_kept, from_line, is_some_byte, lines_before, room, turned, with_room}
-use Rattle.relay_sift.proofs.FirstLines.{feed_lines, joined, lines_open}
-use Rattle.relay_sift.proofs.Portions.{rest_slice}
+use Rattle.relay_sift.proofs.FirstLines.{feed_lines, joined, lines_open, unbroken_parts}
+use Rattle.relay_sift.proofs.Portions.{drop_length, rest_slice}
 
 -- ---- line feeds
 
@@ -24,6 +25,34 @@ feeds_within : (xs : List ℕ) → length (line_feeds xs) ≤ length xs
 feeds_within [] = omega arith
 feeds_within (x ∷ xs) =
     let h = feeds_within xs in elim (decide (x == 10)) [ inl t ↦ rw t (omega (arith, h)) | inr f ↦ rw f (omega (arith, h)) ]
+
+feeds_none : (xs : List ℕ) → IsUnbroken xs → length (line_feeds xs) ≡ 0
+feeds_none [] u = refl
+feeds_none (x ∷ xs) u =
+    let p = unbroken_parts x xs u in
+    let f = p.0 in rw f (feeds_none xs p.1)
+
+-- none is left
+pub feeds_end : (bytes rest : List ℕ) (count : ℕ) → IsFirstByte (is_byte 10) rest None → count + length (line_feeds rest) ≡ length (line_feeds bytes) → count ≡ length (line_feeds bytes)
+feeds_end bytes rest count none h = let n = feeds_none rest (nowhere_unbroken rest none) in omega (arith, n, h)
+
+-- one more is counted
+pub feeds_next : (bytes rest next : List ℕ) (end count : ℕ) → IsFirstByte (is_byte 10) rest (Some end) → next ≡ take (length rest - (end + 1)) (drop (end + 1) rest)
+    → (count + length (line_feeds rest) ≡ length (line_feeds bytes)) × (count + length rest ≤ length bytes)
+    → (count + 1 + length (line_feeds next) ≡ length (line_feeds bytes)) × (count + 1 + length next ≤ length bytes)
+feeds_next bytes rest next end count f is h =
+    let high : end < length rest = f.0.high in
+    let slice : next ≡ drop (end + 1) rest = is ∙ rest_slice (end + 1) rest (omega (arith, high)) in
+    let parts = first_feed rest end f in
+    let all : length (line_feeds rest) ≡ length (line_feeds (take end rest)) + suc (length (line_feeds (drop (end + 1) rest))) =
+    ap (λ (t : List ℕ). length (line_feeds t)) parts.1 ∙ feeds_append (take end rest) (10 ∷ drop (end + 1) rest) in
+    let none = feeds_none (take end rest) parts.0 in
+    let same = ap (λ (t : List ℕ). length (line_feeds t)) slice in
+    let size = ap length slice in
+    let left = drop_length (end + 1) rest (omega (arith, high)) in
+    let a = h.0 in
+    let b = h.1 in
+    (omega (arith, all, none, same, a), omega (arith, size, left, b))
 
 -- ---- what is added
 

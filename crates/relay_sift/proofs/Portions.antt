@@ -99,7 +99,7 @@ take_plus (suc n) m (x ∷ xs) = let e : suc n + m ≡ suc (n + m) = omega arith
 drop_plus : (n m : ℕ) (xs : List ℕ) → drop m (drop n xs) ≡ drop (n + m) xs
 drop_plus n m xs = grind (arith, common_steps)
 
-drop_length : (n : ℕ) (xs : List ℕ) → n ≤ length xs → length (drop n xs) + n ≡ length xs
+pub drop_length : (n : ℕ) (xs : List ℕ) → n ≤ length xs → length (drop n xs) + n ≡ length xs
 drop_length n xs h = grind (arith, common_steps)
 
 pub front_source_long : (d : Option (List ℕ)) (n : ℕ) (bytes : List ℕ) (ended : Bool) (end : ℕ) (own : Option LineKind) → IsFirst bytes ended (first.Whole end) → Judges d (line_text (take end bytes)) (judged.Pair own) → IsFirst (drop end bytes) ended first.Long

@@ -134,15 +134,15 @@ fn has_any(bytes: &[u8]) -> bool
     !bytes.is_empty()
 }
 
-// The number of line feeds in these bytes.
-fn count_feeds(bytes: &[u8]) -> u64
+/// The number of line feeds in these bytes.
+pub fn count_feeds(bytes: &[u8]) -> u64
     ensures { result ≡ length (line_feeds bytes.now) }
 {
     let mut count = 0u64;
-    'bytes: for byte in bytes {
-        if *byte == b'\n' {
-            count += 1;
-        }
+    let mut rest = bytes;
+    while let Some(end) = memchr(b'\n', rest) {
+        count += 1;
+        rest = &rest[end + 1..];
     }
     count
 }

@@ -21,6 +21,6 @@ pub mod sifted;
 pub use about::subject_kept;
 pub use asking::{Extent, Subject, extent_of, subject_of};
 pub use checking::{CheckFault, check};
-pub use kept::Kept;
+pub use kept::{Kept, count_feeds};
 pub use notes::{SharedNotes, SiftNotes};
 pub use sifted::Sifted;
