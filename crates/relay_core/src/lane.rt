@@ -258,7 +258,9 @@ impl Lane {
 
 // Messages are taken.
 impl Lane {
-    // Takes an operation into a lane that has room for it.
+    // Takes an operation into a lane that has room for it. It is inlined, as `take` is, so that an
+    // operation is not moved from one to the next.
+    #[inline(always)]
     fn take_put(&mut self, op: Op) -> Result<(), NoRoom>
         requires { length self.old.state.core.held < self.old.state.config.max_held }
         ensures ok { OnOk result (self.new.state ≡ after_op self.old.state op) }
@@ -308,6 +310,7 @@ impl Lane {
     /// and a Done closes its sender. Room for the operation's later report or success is allocated
     /// here. The fault is the first of [`TakeFault`] that applies; `Memory` only for an operation. The
     /// message is returned with it, and the lane is unchanged.
+    #[inline(always)]
     pub fn take(&mut self, mail: Mail) -> Result<(), (TakeFault, Mail)>
         requires { mail.sender < length self.old.state.closed }
         ensures ok { OnOk result
