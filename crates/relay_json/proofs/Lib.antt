@@ -8,3 +8,4 @@ pub mod Numbers
 pub mod Digits
 pub mod PlainTexts
 pub mod Decimals
+pub mod Words

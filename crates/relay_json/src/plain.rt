@@ -12,7 +12,27 @@ pub fn after<'t>(bytes: &'t [u8], front: &[u8]) -> Option<&'t [u8]>
     ensures { MatchOption result ((rest : List ℕ) → bytes.now ≢ front.now ++ rest)
         (λ rest. bytes.now ≡ front.now ++ rest.now) }
 {
-    bytes.strip_prefix(front)
+    let mut rest = bytes;
+    let mut left = front;
+    while let Some((word, more)) = left.split_first_chunk::<8>() {
+        rest = after_word(rest, word)?;
+        left = more;
+    }
+    rest.strip_prefix(left)
+}
+
+// What follows these eight bytes, if the bytes start with them. They are compared as one number.
+#[inline(always)]
+fn after_word<'t>(bytes: &'t [u8], word: &[u8; 8]) -> Option<&'t [u8]>
+    ensures { MatchOption result ((rest : List ℕ) → bytes.now ≢ word.now ++ rest)
+        (λ rest. bytes.now ≡ word.now ++ rest.now) }
+{
+    let (first, rest) = bytes.split_first_chunk::<8>()?;
+    if u64::from_le_bytes(*first) == u64::from_le_bytes(*word) {
+        Some(rest)
+    } else {
+        None
+    }
 }
 
 /// The bytes as a text, if all are ASCII characters from the space on except the quote, the
