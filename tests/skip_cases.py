@@ -3,11 +3,12 @@ import json
 import os
 import random
 import re
+import subprocess
 import tempfile
 
 from bulk_server import Server
-from program import FEWER, check, run
-from run_cases import relay_run
+from program import FEWER, RELAY, check, run
+from run_cases import relay_run, unlogged
 
 # How many lines belong to an action of the bulk API.
 LINES = {"delete": 1, "index": 2, "create": 2, "update": 2}
@@ -259,6 +260,12 @@ def checks():
         check("check: %s" % data[:40], (done.stdout, done.stderr, done.returncode) == (text, b"", 2 if text else 0), done)
 
 
+def through_a_pipe(port, text, *more):
+    """Runs with this text on standard input, a pipe."""
+    done = subprocess.run([RELAY, "run", "--to", "127.0.0.1:%d" % port, *more, "-"], input=text, capture_output=True, timeout=300)
+    return done.returncode, done.stdout, unlogged(done.stderr)
+
+
 def subjects():
     """Beneath the fault of a file a line says what it is about, also of a pipe, and far into a file."""
     with tempfile.TemporaryDirectory() as folder:
@@ -273,9 +280,14 @@ def subjects():
                     file.write("".join('{"delete":{"_id":"%d"}}\n' % n for n in range(many)) + bad + '{"delete":{"_id":"1"}}\n' * 3_000)
                 server = Server()
                 done = relay_run(server.port, [path], "--index", "b", "--count", "5000")
+                with open(path, "rb") as file:
+                    piped = through_a_pipe(server.port, file.read(), "--index", "b", "--epoch", "1", "--count", "5000")
                 server.close()
-                wanted = (2, b"applied %d already 0 reported 0\n" % many, b"%s: line %d: %s" % (path.encode(), many + 1, said))
+                counts, fault = b"applied %d already 0 reported 0\n" % many, b"line %d: %s" % (many + 1, said)
+                wanted = (2, counts, b"%s: %s" % (path.encode(), fault))
                 check("the subject, after %d: %s" % (many, bad), done == wanted, (done, wanted))
+                wanted = (2, counts, b"-: " + fault)
+                check("the subject through a pipe, after %d: %s" % (many, bad), piped == wanted, (piped, wanted))
 
 
 GROUPS = (one_file, at_random, checks, subjects)
