@@ -161,7 +161,6 @@ fn detail_of(alloc: Global, error: &ErrorFields<'_>) -> Result<ErrorDetail, Allo
 }
 
 // What an outcome keeps of an error, if there is one.
-#[inline(always)]
 fn error_of(
     alloc: Global,
     error: &Option<ErrorFields<'_>>,
@@ -175,7 +174,6 @@ fn error_of(
 }
 
 // The outcome of an entry whose only member has this name, if the entry is valid.
-#[inline(always)]
 fn outcome_of(
     alloc: Global,
     name: &str,
@@ -202,9 +200,7 @@ fn outcome_of(
     }))
 }
 
-// The outcome of the next value, if it is a valid entry. These are inlined, so that an outcome is not
-// moved from one to the next.
-#[inline(always)]
+// The outcome of the next value, if it is a valid entry.
 fn read_entry(alloc: Global, walk: &mut Walk<'_>) -> Result<Option<Outcome>, ReadFault>
     ensures ok { IfOk result (λ r. (d : Data) × IsRead walk.old d walk.new
         × MatchOption r (IsNoEntry d) (IsEntry d)) }
