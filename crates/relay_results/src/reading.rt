@@ -6,7 +6,8 @@ ghost use Rattle.serde_json.specs.Data.{Members, member, no_members};
 ghost use Rattle.relay_json.specs.Walks.{IsLeaf, IsRead, IsRefused, IsPast};
 ghost use Rattle.relay_results.specs.Replies.{IsTruncated, KeepsReason, IsDetail, IsEntry};
 ghost use Rattle.relay_results.specs.Replies.{IsNoEntry, IsBulkReply, IsFaultOf};
-ghost use Rattle.relay_results.specs.Parts.{status_of, told_error, KeepsError, HoldsTexts, texts_of};
+ghost use Rattle.relay_results.specs.Parts.{in_range, status_of, told_error, KeepsError, HoldsTexts};
+ghost use Rattle.relay_results.specs.Parts.{texts_of};
 ghost use Rattle.relay_results.specs.Parts.{HoldsFields, HoldsEntries, HoldsReply};
 
 use crate::outcome::{ErrorDetail, Outcome};
@@ -86,7 +87,13 @@ fn read_error<'t>(walk: &mut Walk<'t>) -> Result<Option<ErrorFields<'t>>, ReadFa
 fn status_of(leaf: Leaf<'_>) -> Option<u16>
     ensures { (d : Data) → IsLeaf leaf.entry d → result ≡ status_of d }
 {
-    let status = leaf.as_u64()?;
+    valid_status(leaf.as_u64()?)
+}
+
+/// The status of an item, from 100 to 599. `None`: it is not in this range.
+pub(crate) fn valid_status(status: u64) -> Option<u16>
+    ensures { result ≡ in_range status }
+{
     if 100 <= status && status <= 599 {
         Some(status as u16)
     } else {

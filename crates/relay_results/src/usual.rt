@@ -10,6 +10,7 @@ ghost use Rattle.relay_results.specs.Usual.{head_text, outcome_of, IsPlainType, 
 ghost use Rattle.relay_results.specs.Usual.{IsApplied, AreShards, IsPlace, IsUsual, HasRead};
 
 use crate::outcome::Outcome;
+use crate::reading::valid_status;
 use relay_action::{ActionKind, Text};
 use relay_json::{after, take_decimal, take_plain};
 use std::alloc::Global;
@@ -109,16 +110,6 @@ fn take_outcome<'t>(alloc: Global, bytes: &'t [u8], outcomes: &mut Vec<Outcome>)
     };
     outcomes.push(outcome).ok()?;
     Some(rest)
-}
-
-// The status of an entry, if it is valid.
-fn valid_status(status: u64) -> Option<u16>
-    ensures { IfSome result (λ s. (s ≡ status) × (100 ≤ status) × (status ≤ 599)) }
-{
-    if status < 100 || status > 599 {
-        return None;
-    }
-    Some(status as u16)
 }
 
 // The next entry, and what follows it.

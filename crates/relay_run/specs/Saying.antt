@@ -21,6 +21,10 @@ Written = Option (List ℕ) × ℕ
 abbrev pub IsSaid : List ℕ → Written → Written → Type 0
 IsSaid text old new = FailedSince old.1 new.1 ⊎ ((new.0 ≡ append_known old.0 text) × (new.1 ≡ old.1))
 
+-- this text is said first, and then one more
+abbrev pub SaysTwo : List ℕ → Written → Written → Type 0
+SaysTwo text old new = (mid : Written) × (more : List ℕ) × IsSaid text old mid × IsSaid more mid new
+
 -- a lane that is gone counts as a device fault
 abbrev pub exit_of_finish : FinishFaultKind → Exit
 exit_of_finish kind.LaneMemory = exit.Memory

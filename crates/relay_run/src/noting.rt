@@ -47,11 +47,10 @@ impl RegularFile {
 fn keep_lines(file: &mut File, piece: &mut [u8], number: u64, kept: &mut Kept) {
     let mut ended = 0u64;
     for _piece in 0..u64::MAX {
-        let feeds = keep_piece(file, piece, kept);
-        ended = match feeds {
-            Some(feeds) => ended.saturating_add(feeds),
-            None => return,
+        let Some(feeds) = keep_piece(file, piece, kept) else {
+            return;
         };
+        ended = ended.saturating_add(feeds);
         if ended >= number {
             return;
         }

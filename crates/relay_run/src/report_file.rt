@@ -2,7 +2,7 @@
 ghost use Rattle.std.specs.Prelude.{◌≡◌, IfOk, OnOk, vec_len};
 ghost use Rattle.relay_run.specs.ReportFile.{AreNewHandles, exit_of_report_file, not_apart_text};
 ghost use Rattle.relay_run.specs.ReportFile.{not_empty_text, report_file_text};
-ghost use Rattle.relay_run.specs.Saying.{IsSaid};
+ghost use Rattle.relay_run.specs.Saying.{IsSaid, SaysTwo};
 
 use crate::noting::reason_line;
 use crate::saving::say_failed;
@@ -246,13 +246,27 @@ pub(crate) fn say_refused<E: ByteOut>(
     fault: ReportFileFault,
     err: &mut E,
 ) -> Result<Exit, AllocError>
-    ensures { IfOk result (λ end. end ≡ exit_of_report_file fault) }
+    ensures said { OnOk result
+        (SaysTwo (report_file_text option name.now fault)
+        (E.written err.old, E.failed err.old) (E.written err.new, E.failed err.new)) }
+    ensures exit { IfOk result (λ end. end ≡ exit_of_report_file fault) }
 {
     let exit = say_not_opened(alloc, option, name, fault, err)?;
-    if let ReportFileFault::Open(reason) | ReportFileFault::Mend(reason) = fault {
-        let _ = say(err, &reason_line(alloc, reason)?);
-    }
+    let beneath = reason_beneath(alloc, fault)?;
+    let _ = say(err, &beneath);
     Ok(exit)
+}
+
+// The line with the system's reason for a fault; empty if there is none.
+fn reason_beneath(alloc: Global, fault: ReportFileFault) -> Result<Vec<u8>, AllocError> {
+    match fault {
+        ReportFileFault::Open(reason) | ReportFileFault::Mend(reason) => {
+            reason_line(alloc, reason)
+        }
+        ReportFileFault::Input | ReportFileFault::Content | ReportFileFault::Memory => {
+            Ok(Vec::new(alloc))
+        }
+    }
 }
 
 // Writes why the file was not opened, and returns the exit status.
