@@ -18,8 +18,8 @@ pub use relay_ndjson::{
 };
 // Replies and verdicts.
 pub use relay_results::{
-    Cause, DoneResult, ErrorDetail, ItemDone, ItemVerdict, LastTry, Outcome, ReplyFault, matches,
-    read_refusal, read_reply, verdict, write_reply,
+    Cause, DoneResult, ErrorDetail, ItemDone, ItemError, ItemVerdict, LastTry, Outcome, ReplyFault,
+    matches, read_refusal, read_reply, verdict, write_reply,
 };
 // The stand-in index.
 pub use relay_index::{Choice, Index, Script, ServeFault, may_refuse};

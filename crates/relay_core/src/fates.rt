@@ -8,7 +8,7 @@ ghost use Rattle.relay_core.specs.Walk.{said, fate_or};
 
 use relay_action::{ActionKind, Text};
 use relay_held::Kept;
-use relay_results::{Cause, ErrorDetail, ItemVerdict, LastTry, Outcome, verdict};
+use relay_results::{Cause, ItemError, ItemVerdict, LastTry, Outcome, verdict};
 
 /// What the answer to a request as a whole means for its operations.
 #[derive(Clone, Copy, Debug)]
@@ -48,24 +48,27 @@ struct Tries {
 }
 
 // Whether an error states no stored version, or this one.
-fn may_be_own(error: &Option<ErrorDetail>, own: u64) -> bool
+fn may_be_own(error: &Option<ItemError>, own: u64) -> bool
     ensures { result ≡ may_be_own (stored_in error.now) own }
 {
     match error {
-        Some(error) => error.stored.is_none_or(|stored| stored == own),
+        Some(error) => error.detail().stored.is_none_or(|stored| stored == own),
         None => true,
     }
 }
 
 // The cause of a report on a conflict with this error.
-fn conflict(error: Option<ErrorDetail>) -> Cause
+fn conflict(error: Option<ItemError>) -> Cause
     ensures { result ≡ Cause.Conflict (stored_in error) (reason_in error) }
 {
     match error {
-        Some(error) => Cause::Conflict {
-            stored: error.stored,
-            reason: error.reason,
-        },
+        Some(error) => {
+            let detail = error.into_detail();
+            Cause::Conflict {
+                stored: detail.stored,
+                reason: detail.reason,
+            }
+        }
         None => Cause::Conflict {
             stored: None,
             reason: None,
@@ -74,15 +77,18 @@ fn conflict(error: Option<ErrorDetail>) -> Cause
 }
 
 // The cause of a report on a refusal with this status and this error.
-fn refusal(status: u16, error: Option<ErrorDetail>) -> Cause
+fn refusal(status: u16, error: Option<ItemError>) -> Cause
     ensures { result ≡ Cause.Refused status (kind_in error) (reason_in error) }
 {
     match error {
-        Some(error) => Cause::Refused {
-            status,
-            kind: error.kind,
-            reason: error.reason,
-        },
+        Some(error) => {
+            let detail = error.into_detail();
+            Cause::Refused {
+                status,
+                kind: detail.kind,
+                reason: detail.reason,
+            }
+        }
         None => Cause::Refused {
             status,
             kind: Text::empty(),

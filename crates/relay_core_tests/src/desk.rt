@@ -2,7 +2,7 @@
 use relay_action::{Action, ActionKind, Body, DocKey, Mail, Op, Text};
 use relay_batch::Limits;
 use relay_core::{Cause, Lane, NotFlying, RelayConfig, Settled, TakeFault, Totals};
-use relay_results::{ErrorDetail, Loss, Outcome};
+use relay_results::{ErrorDetail, ItemError, Loss, Outcome};
 use std::alloc::{AllocError, Global};
 use std::test::Fail;
 
@@ -132,17 +132,18 @@ pub fn put(
 }
 
 // The error of an entry, if it has one.
-fn error_of(alloc: Global, entry: &Entry<'_>) -> Result<Option<ErrorDetail>, AllocError> {
+fn error_of(alloc: Global, entry: &Entry<'_>) -> Result<Option<ItemError>, AllocError> {
     let (kind, stored) = match *entry {
         Entry::Failed(_, _) => ("scripted_refusal", None),
         Entry::Stated(_, stored) => ("version_conflict_engine_exception", Some(stored)),
         _ => return Ok(None),
     };
-    Ok(Some(ErrorDetail {
+    let detail = ErrorDetail {
         kind: Text::new(alloc, kind)?,
         reason: None,
         stored,
-    }))
+    };
+    Ok(Some(ItemError::new(alloc, detail)?))
 }
 
 fn outcome_of(alloc: Global, entry: &Entry<'_>) -> Result<Outcome, AllocError> {

@@ -2,7 +2,8 @@
 use Rattle.std.proofs.Common.{◌≡◌, ◌≢◌, ℕ, ◌<◌, List, [], ◌∷◌, ◌++◌, length, Option, Some, None, true, false, refl, sym, ap, ◌∙◌, subst, ⊎_elim, arith}
 use Rattle.std.specs.Prelude.{cond, unwrap_or, option_map, slice_get, drop, is_some, IfSome, IfNone}
 use Rattle.std.specs.List.{IsDistinct}
-use Rattle.std.specs.Map.{lookup, keys_of}
+use Rattle.std.specs.Map.{lookup, lookup_key, keys_of}
+use Rattle.std.specs.HashMap.{HashMap, Updates as MapUpdates}
 use Rattle.std.proofs.lemmas.List.{length-map}
 use Rattle.slab.specs.Slab.{Slab, get, Updates}
 use Rattle.relay_action.specs.declared.key.DocKey.{DocKey}
@@ -11,7 +12,7 @@ use Rattle.relay_results.proofs.Lists.{apart_tests, true_or_false, none_some, so
 use Rattle.relay_held.specs.declared.kept.Kept.{Kept}
 use Rattle.relay_held.specs.declared.documents.Taken.{Taken}
 use Rattle.relay_held.specs.Queues.{same_key, on_first, queue_of, first_name, Changes, NoneEmpty}
-use Rattle.relay_held.specs.Shelf.{queue_in, queues_in, Shelf, IsShelf, Sets, slot_of, KeepsSlots, entry_at, entry_after}
+use Rattle.relay_held.specs.Shelf.{queue_in, queues_in, Shelf, IsShelf, IsPlaceOf, Sets, slot_of, KeepsSlots, entry_at, entry_after}
 use Rattle.relay_held.proofs.Merging.{same_along}
 use Rattle.relay_held.proofs.Changing.{changes_none, same_queue}
 
@@ -171,6 +172,21 @@ remove_moves s t ss rs key slot q a c e u = record {
   free = λ k f is. apart_tests (sym f ∙ a.apart key k slot e is);
   others = c.others;
 }
+
+-- the first key that passes a test passes it
+pub key_passes : (test : DocKey → Bool) (ss : List (DocKey × ℕ)) (k : DocKey) → lookup_key test ss ≡ Some k → test k ≡ true
+key_passes test [] k is = absurd (none_some k is)
+key_passes test (e ∷ es) k is = ⊎_elim {C = test k ≡ true}
+    (λ t. subst (λ x. test x ≡ true) (some_same e.0 k (sym (ap (λ b. cond b (Some e.0) (lookup_key test es)) t) ∙ is)) t)
+    (λ f. key_passes test es k (sym (ap (λ b. cond b (Some e.0) (lookup_key test es)) f) ∙ is))
+    (true_or_false (test e.0))
+
+-- the entry at a document's place is removed
+pub removed_at : {S : Type 0} (old new : HashMap DocKey ℕ S) (key : DocKey) (at slot : ℕ) (r : Option (DocKey × ℕ)) → IsPlaceOf old.entries key at slot → r ≡ slice_get old.entries at
+    → IfSome r (λ p. MapUpdates same_key old new p.0 None) → (k : DocKey) → lookup (same_key k) new.entries ≡ cond (same_key key k) None (lookup (same_key k) old.entries)
+removed_at old new key at slot r p is u k =
+    let updates = subst (λ o. IfSome o (λ q. MapUpdates same_key old new q.0 None)) (is ∙ p.there) u in
+    updates.0 k ∙ ap (λ b. cond b None (lookup (same_key k) old.entries)) (sym (same_along key p.own k p.same))
 
 pub remove_changes : (s t : Slab (List Kept)) (ss rs : List (DocKey × ℕ)) (key : DocKey) (slot : ℕ) (q : List Kept) → IsShelf ss s → Sets s t slot q → lookup (same_key key) ss ≡ Some slot
     → ((k : DocKey) → lookup (same_key k) rs ≡ cond (same_key key k) None (lookup (same_key k) ss)) → Changes (queues_in s ss) (queues_in t rs) key []

@@ -38,6 +38,13 @@ pub record Sets (old new : Slab (List Kept)) (slot : ℕ) (q : List Kept) : Type
 abbrev pub slot_of : List (DocKey × ℕ) → DocKey → ℕ
 slot_of ss k = unwrap_or (lookup (same_key k) ss) 0
 
+-- a document's entry is at this place among all, and it has this slot
+pub record IsPlaceOf (ss : List (DocKey × ℕ)) (key : DocKey) (at slot : ℕ) : Type 0 where
+  pub own : DocKey
+  pub same : same_key key own ≡ true
+  pub there : slice_get ss at ≡ Some (own, slot)
+  pub only : lookup (same_key key) ss ≡ Some slot
+
 -- a document that had held operations before, and still has some, keeps its slot
 abbrev pub KeepsSlots : Shelf → Shelf → Type 0
 KeepsSlots old new = (k : DocKey) (g h : Kept) → slice_get (queue_of old.queues k) 0 ≡ Some g → slice_get (queue_of new.queues k) 0 ≡ Some h → slot_of new.slots k ≡ slot_of old.slots k

@@ -14,7 +14,7 @@ ghost use Rattle.relay_held.specs.Operations.{launch_one, back_at, halved_at, ca
 ghost use Rattle.relay_held.specs.Queues.{same_key, on_first, first_name, queue_of, Changes};
 ghost use Rattle.relay_held.specs.Queues.{NoneEmpty};
 ghost use Rattle.relay_held.specs.Shelf.{queue_in, queues_in, IsShelf, Sets, slot_of, KeepsSlots};
-ghost use Rattle.relay_held.specs.Shelf.{entry_at, entry_after};
+ghost use Rattle.relay_held.specs.Shelf.{entry_at, entry_after, IsPlaceOf};
 
 use crate::held::NotHeld;
 use crate::kept::{Candidate, Kept, candidate_of};
@@ -42,6 +42,13 @@ impl Model for Documents {
         { queues = queues_in d.queues d.slots.entries; slots = d.slots.entries } };
 
     ghost invariant = { λ d. IsShelf d.slots.entries d.queues };
+}
+
+// Where the entry of a document is, and the slot of its queue.
+#[derive(Clone, Copy)]
+struct Place {
+    at: usize,
+    slot: usize,
 }
 
 /// The first operation of a document, which was taken out.
@@ -210,57 +217,57 @@ fn remove(
     slots: &mut IndexMap<DocKey, usize>,
     queues: &mut Slab<Queue>,
     key: &DocKey,
-    slot: usize,
+    place: Place,
 ) -> Option<Taken>
-    requires slot { lookup (same_key key.now) slots.old.entries ≡ Some slot }
-    requires last { drop 1 (queue_in queues.old slot) ≡ [] }
+    requires place { IsPlaceOf slots.old.entries key.now place.at place.slot }
+    requires last { drop 1 (queue_in queues.old place.slot) ≡ [] }
     requires shelf { IsShelf slots.old.entries queues.old }
     ensures removed { Changes (queues_in queues.old slots.old.entries)
         (queues_in queues.new slots.new.entries) key.now [] }
     ensures shelf { IsShelf slots.new.entries queues.new }
     ensures name { option_map (λ (t : Taken). t.name) result
-        ≡ first_name (queue_in queues.old slot) }
+        ≡ first_name (queue_in queues.old place.slot) }
     ensures next { IfSome result (λ t. t.next ≡ None) }
     ensures others { (k : DocKey) → same_key key.now k ≡ false
         → lookup (same_key k) slots.new.entries ≡ lookup (same_key k) slots.old.entries }
     ensures fewer { length slots.new.entries ≤ length slots.old.entries }
 {
-    let name = name_in(queues, slot);
-    let _ = slots.swap_remove(key);
-    let _ = queues.try_remove(slot);
+    let name = name_in(queues, place.slot);
+    let _ = slots.swap_remove_index(place.at);
+    let _ = queues.try_remove(place.slot);
     Some(Taken {
         name: name?,
         next: None,
     })
 }
 
-// Takes out the first operation of the document in a slot. A document without further operations is
+// Takes out the first operation of the document at a place. A document without further operations is
 // removed.
 fn take_in(
     slots: &mut IndexMap<DocKey, usize>,
     queues: &mut Slab<Queue>,
     key: &DocKey,
-    slot: usize,
+    place: Place,
 ) -> Option<Taken>
-    requires slot { lookup (same_key key.now) slots.old.entries ≡ Some slot }
+    requires place { IsPlaceOf slots.old.entries key.now place.at place.slot }
     requires shelf { IsShelf slots.old.entries queues.old }
     ensures taken { Changes (queues_in queues.old slots.old.entries)
-        (queues_in queues.new slots.new.entries) key.now (drop 1 (queue_in queues.old slot)) }
+        (queues_in queues.new slots.new.entries) key.now (drop 1 (queue_in queues.old place.slot)) }
     ensures shelf { IsShelf slots.new.entries queues.new }
     ensures name { option_map (λ (t : Taken). t.name) result
-        ≡ first_name (queue_in queues.old slot) }
-    ensures next { IfSome result (λ t. t.next
-        ≡ option_map (entry_at slot) (slice_get (drop 1 (queue_in queues.old slot)) 0)) }
+        ≡ first_name (queue_in queues.old place.slot) }
+    ensures next { IfSome result (λ t. t.next ≡ option_map (entry_at place.slot)
+        (slice_get (drop 1 (queue_in queues.old place.slot)) 0)) }
     ensures kept { (k : DocKey) (h : Kept)
         → slice_get (queue_of (queues_in queues.new slots.new.entries) k) 0 ≡ Some h
         → lookup (same_key k) slots.new.entries ≡ lookup (same_key k) slots.old.entries }
     ensures fewer { length slots.new.entries ≤ length slots.old.entries }
 {
-    let taken = next_in(queues, slot);
+    let taken = next_in(queues, place.slot);
     if taken.is_some() {
         return taken;
     }
-    remove(slots, queues, key, slot)
+    remove(slots, queues, key, place)
 }
 
 impl Documents {
@@ -290,6 +297,16 @@ impl Documents {
         ensures none { IfNone result (queue_of self.now.queues key.now ≡ []) }
     {
         self.slots.get(key).copied()
+    }
+
+    // Where a document's entry is, and the slot of its queue.
+    fn place(&self, key: &DocKey) -> Option<Place>
+        ensures place { IfSome result
+            (λ p. IsPlaceOf self.now.slots key.now p.at p.slot) }
+        ensures none { IfNone result (queue_of self.now.queues key.now ≡ []) }
+    {
+        let (at, _, slot) = self.slots.get_full(key)?;
+        Some(Place { at, slot: *slot })
     }
 
     /// What a batch needs to know of the first operation of the document in a slot.
@@ -391,7 +408,7 @@ impl Documents {
         ensures fewer { length (keys_of self.new.queues) ≤ length (keys_of self.old.queues) }
         ensures unique { IsDistinct same_key (keys_of self.new.queues) }
     {
-        let slot = self.slot(key)?;
-        take_in(&mut self.slots, &mut self.queues, key, slot)
+        let place = self.place(key)?;
+        take_in(&mut self.slots, &mut self.queues, key, place)
     }
 }

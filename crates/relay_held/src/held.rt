@@ -123,6 +123,8 @@ impl Held {
 
     /// Holds one more operation, whose version must be above all others. If an allocation fails,
     /// the operation is returned and nothing has changed.
+    // Not inlined, its result would be moved several times for each operation.
+    #[inline(always)]
     pub fn push(&mut self, one: Kept) -> Result<(), NotHeld>
         requires above { AllUnder one.version self.old.list }
         requires waits { one.flies ≡ None }

@@ -3,7 +3,9 @@ ghost use Rattle.relay_index.specs.Choices.{MayChoose};
 
 use relay_action::{Action, ActionFault, DocKey, Write};
 use relay_index::{Choice, Index, Script, may_refuse};
-use relay_results::{DoneResult, ItemDone, Outcome, VersionConflict, read_reply, write_reply};
+use relay_results::{
+    DoneResult, ErrorDetail, ItemDone, Outcome, VersionConflict, read_reply, write_reply,
+};
 use std::alloc::{AllocError, Global};
 use std::test::Fail;
 
@@ -233,11 +235,16 @@ fn read_of_reply(alloc: Global, items: &[ItemDone]) -> Result<Vec<Outcome>, Fail
     Ok(read_reply(alloc, text.as_str().as_bytes())?)
 }
 
+// What an outcome says of its error.
+fn detail_of(outcome: &Outcome) -> Option<&ErrorDetail> {
+    outcome.error.as_ref().map(|error| error.detail())
+}
+
 // Whether what was read is the outcome of an item.
 fn is_outcome(alloc: Global, item: &ItemDone, read: &Outcome) -> Result<bool, AllocError> {
     let told = item.outcome(alloc)?;
     let named = read.kind == told.kind && read.id == told.id;
-    Ok(named && read.status == told.status && read.error == told.error)
+    Ok(named && read.status == told.status && detail_of(read) == detail_of(&told))
 }
 
 // Whether what was read is the outcome of each item.

@@ -40,6 +40,9 @@ pub struct TimedStream<T, C: Clock> {
     failed: u64,
     // Whether no time was left when a call failed last.
     late: bool,
+    // How long the system was told that a read may wait, and a write. 0: it was not told.
+    read_for: Duration,
+    write_for: Duration,
 }
 
 impl<T, C: Clock> Model for TimedStream<T, C> {
@@ -82,6 +85,8 @@ impl<T, C: Clock> TimedStream<T, C> {
             began: Duration::ZERO,
             failed: 0,
             late: false,
+            read_for: Duration::ZERO,
+            write_for: Duration::ZERO,
         }
     }
 
@@ -114,6 +119,33 @@ impl<T, C: Clock> TimedStream<T, C> {
         ensures { result ≡ is_late self.now }
     {
         self.limit > 0 && self.left() < Duration::from_millis(1)
+    }
+
+    // How long the system was told that a call in this direction may wait.
+    fn told(&self, direction: Direction) -> Duration {
+        match direction {
+            Direction::Reading => self.read_for,
+            Direction::Writing => self.write_for,
+        }
+    }
+
+    // Whether the system need not be told again for a call in this direction: it was told to wait
+    // for as long as the message has left, and for no more than a twentieth of the limit beyond.
+    fn is_told(&self, direction: Direction) -> bool {
+        let told = self.told(direction);
+        let left = self.left();
+        let beyond = Duration::from_millis(self.limit as u64 * 50);
+        told >= left && told.saturating_sub(left) <= beyond
+    }
+
+    // Notes how long the system was told that a call in this direction may wait.
+    fn note(&mut self, direction: Direction, time: Duration)
+        ensures { self.new ≡ self.old }
+    {
+        match direction {
+            Direction::Reading => self.read_for = time,
+            Direction::Writing => self.write_for = time,
+        }
     }
 
     // Counts a failed call in this direction.
@@ -149,12 +181,24 @@ impl<T: OpenStream, C: Clock> TimedStream<T, C> {
         if self.is_late() {
             return false;
         }
+        self.is_told(direction) || self.tell(direction)
+    }
+
+    // Tells the system that a call in this direction may wait for as long as the message has left,
+    // and returns whether it took that.
+    fn tell(&mut self, direction: Direction) -> bool
+        ensures { self.new ≡ self.old }
+    {
         let left = self.left();
         let socket = self.stream.get_ref();
-        match direction {
+        let told = match direction {
             Direction::Reading => socket.set_read_timeout(Some(left)).is_ok(),
             Direction::Writing => socket.set_write_timeout(Some(left)).is_ok(),
+        };
+        if told {
+            self.note(direction, left);
         }
+        told
     }
 }
 

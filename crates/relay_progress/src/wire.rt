@@ -150,7 +150,7 @@ fn note_outcome(counts: &Counts, alloc: Global, outcome: &Outcome) {
         return;
     };
     if outcome.status != 409 {
-        counts.note_refusal(alloc, outcome.status, Some(error.kind.as_str()));
+        counts.note_refusal(alloc, outcome.status, Some(error.detail().kind.as_str()));
     }
 }
 

@@ -4,7 +4,7 @@ ghost use Rattle.relay_results.specs.Replies.{reason_limit};
 ghost use Rattle.relay_results.specs.Conflicts.{conflict_reason, front};
 ghost use Rattle.relay_results.specs.Done.{error_by};
 
-use crate::outcome::{ErrorDetail, Outcome};
+use crate::outcome::{ErrorDetail, ItemError, Outcome};
 use crate::reading::{REASON_LIMIT, cut};
 use relay_action::{ActionKind, DocKey, Text};
 use std::alloc::{AllocError, Global};
@@ -127,7 +127,10 @@ impl ItemDone {
         ensures { IfOk result (λ o. o ≡ outcome_of self.now) }
     {
         let error = match self.result.failure() {
-            Some(failure) => Some(error_by(alloc, self.key.id(), self.conflict, failure)?),
+            Some(failure) => {
+                let detail = error_by(alloc, self.key.id(), self.conflict, failure)?;
+                Some(ItemError::new(alloc, detail)?)
+            }
             None => None,
         };
         Ok(Outcome {

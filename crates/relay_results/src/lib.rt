@@ -23,7 +23,7 @@ pub use cause::{Cause, LastTry, Loss};
 pub use decide::{ItemVerdict, verdict};
 pub use done::{DoneResult, ItemDone, VersionConflict};
 pub use numeral::number_of;
-pub use outcome::{ErrorDetail, Outcome};
+pub use outcome::{ErrorDetail, ItemError, Outcome};
 pub use pairing::matches;
 pub use reading::{ERROR_LIMIT, REASON_LIMIT, ReplyFault, read_reply};
 pub use refusal::read_refusal;

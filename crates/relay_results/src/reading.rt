@@ -10,7 +10,7 @@ ghost use Rattle.relay_results.specs.Parts.{in_range, status_of, told_error, Kee
 ghost use Rattle.relay_results.specs.Parts.{texts_of};
 ghost use Rattle.relay_results.specs.Parts.{HoldsFields, HoldsEntries, HoldsReply};
 
-use crate::outcome::{ErrorDetail, Outcome};
+use crate::outcome::{ErrorDetail, ItemError, Outcome};
 use crate::stating::stored_in;
 use crate::usual::read_usual;
 use relay_action::{ActionKind, Text};
@@ -168,14 +168,11 @@ fn detail_of(alloc: Global, error: &ErrorFields<'_>) -> Result<ErrorDetail, Allo
 }
 
 // What an outcome keeps of an error, if there is one.
-fn error_of(
-    alloc: Global,
-    error: &Option<ErrorFields<'_>>,
-) -> Result<Option<ErrorDetail>, AllocError>
+fn error_of(alloc: Global, error: &Option<ErrorFields<'_>>) -> Result<Option<ItemError>, AllocError>
     ensures { IfOk result (λ e. KeepsError (option_map texts_of error.now) e) }
 {
     match error {
-        Some(error) => Ok(Some(detail_of(alloc, error)?)),
+        Some(error) => Ok(Some(ItemError::new(alloc, detail_of(alloc, error)?)?)),
         None => Ok(None),
     }
 }

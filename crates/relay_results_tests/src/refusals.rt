@@ -2,8 +2,8 @@
 //! and the call succeeds when it is repeated.
 use relay_action::{ActionKind, DocKey};
 use relay_results::{
-    DoneResult, ErrorDetail, ItemDone, Outcome, ReplyFault, VersionConflict, read_refusal,
-    read_reply, write_reply,
+    DoneResult, ErrorDetail, ItemDone, ItemError, Outcome, ReplyFault, VersionConflict,
+    read_refusal, read_reply, write_reply,
 };
 use std::alloc::{AllocError, Global};
 
@@ -39,22 +39,39 @@ fn item(alloc: Global, status: u16, became: DoneResult) -> Option<ItemDone> {
     })
 }
 
-fn copy_of(error: &ErrorDetail) -> Option<ErrorDetail> {
-    match error.copy() {
+fn detail_of(error: &ItemError) -> Option<ErrorDetail> {
+    match error.detail().copy() {
         Ok(copy) => Some(copy),
-        Err(AllocError) => error.copy().ok(),
+        Err(AllocError) => error.detail().copy().ok(),
     }
 }
 
-// Whether an error states the stored version of the conflict, and so does its copy.
-fn is_detail(error: &ErrorDetail) -> bool {
-    let copied = copy_of(error).is_some_and(|copy| copy == *error);
-    copied && error.stored == Some(70) && error.reason.is_some()
+// An error with the same detail as this one.
+fn error_like(alloc: Global, error: &ItemError) -> Option<ItemError> {
+    match ItemError::new(alloc, detail_of(error)?) {
+        Ok(new) => Some(new),
+        Err(AllocError) => ItemError::new(alloc, detail_of(error)?).ok(),
+    }
 }
 
-fn is_outcome(outcome: &Outcome, status: u16, has_error: bool) -> bool {
+fn copy_of(alloc: Global, error: &ItemError) -> Option<ItemError> {
+    match error.copy(alloc) {
+        Ok(copy) => Some(copy),
+        Err(AllocError) => error.copy(alloc).ok(),
+    }
+}
+
+// Whether an error states the stored version of the conflict, and so do its copies.
+fn is_stated(alloc: Global, error: &ItemError) -> bool {
+    let detail = error.detail();
+    let made = error_like(alloc, error).is_some_and(|new| new.into_detail() == *detail);
+    let copied = copy_of(alloc, error).is_some_and(|copy| *copy.detail() == *detail);
+    made && copied && detail.stored == Some(70) && detail.reason.is_some()
+}
+
+fn is_outcome(alloc: Global, outcome: &Outcome, status: u16, has_error: bool) -> bool {
     let same = match &outcome.error {
-        Some(error) => has_error && is_detail(error),
+        Some(error) => has_error && is_stated(alloc, error),
         None => !has_error,
     };
     same && outcome.id.as_str() == ID && outcome.status == status
@@ -81,7 +98,7 @@ fn are_written(alloc: Global) -> Option<bool> {
     ];
     let reply = written(alloc, items.as_slice())?;
     let outcome = outcome_of(alloc, &items[1])?;
-    Some(reply.as_str() == REPLY && is_outcome(&outcome, 409, true))
+    Some(reply.as_str() == REPLY && is_outcome(alloc, &outcome, 409, true))
 }
 
 #[test]
@@ -96,9 +113,11 @@ fn outcomes_of(alloc: Global, text: &str) -> Option<Vec<Outcome>> {
     }
 }
 
-fn are_read(outcomes: &[Outcome]) -> bool {
+fn are_read(alloc: Global, outcomes: &[Outcome]) -> bool {
     match outcomes {
-        [one, other] => is_outcome(one, 201, false) && is_outcome(other, 409, true),
+        [one, other] => {
+            is_outcome(alloc, one, 201, false) && is_outcome(alloc, other, 409, true)
+        }
         [one] => one.status == 201
             && one.id.as_str().starts_with("an id without")
             && one.error.is_none(),
@@ -109,7 +128,9 @@ fn are_read(outcomes: &[Outcome]) -> bool {
 #[test]
 fn refused_replies(rt: HostRuntime) {
     for text in [REPLY, USUAL] {
-        assert!(rt; outcomes_of(rt.alloc(), text).is_some_and(|outcomes| are_read(&outcomes)));
+        assert!(rt;
+            outcomes_of(rt.alloc(), text).is_some_and(|outcomes| are_read(rt.alloc(), &outcomes))
+        );
     }
 }
 

@@ -13,7 +13,9 @@ fn reply_of(alloc: Global, reason: &str) -> Result<String, AllocError> {
 fn error_of(alloc: Global, text: &str) -> Result<Option<ErrorDetail>, ReplyFault> {
     let mut outcomes = read_reply(alloc, text.as_bytes())?;
     match outcomes.pop() {
-        Some(outcome) if outcomes.is_empty() => Ok(outcome.error),
+        Some(outcome) if outcomes.is_empty() => {
+            Ok(outcome.error.map(|error| error.into_detail()))
+        }
         _ => Err(ReplyFault::NoItems),
     }
 }

@@ -1,8 +1,8 @@
 //! Reading and writing replies, matching, verdicts, and failed allocations.
 use relay_action::{Action, ActionFault, ActionKind, DocKey, Write};
 use relay_results::{
-    DoneResult, ItemDone, ItemVerdict, Outcome, ReplyFault, matches, read_reply, verdict,
-    write_reply,
+    DoneResult, ErrorDetail, ItemDone, ItemVerdict, Outcome, ReplyFault, matches, read_reply,
+    verdict, write_reply,
 };
 use std::alloc::{AllocError, Global};
 use std::test::Fail;
@@ -44,7 +44,7 @@ fn fault_of(alloc: Global, text: &[u8]) -> Option<ReplyFault> {
 // Whether an entry has an error of this type.
 fn has_error(outcome: &Outcome, error: Option<&str>) -> bool {
     match (&outcome.error, error) {
-        (Some(found), Some(wanted)) => found.kind.as_str() == wanted,
+        (Some(found), Some(wanted)) => found.detail().kind.as_str() == wanted,
         (None, None) => true,
         _ => false,
     }
@@ -589,9 +589,14 @@ fn written_replies(rt: HostRuntime) -> Result<(), Fail> {
     Ok(())
 }
 
+// What an outcome says of its error.
+fn detail_of(outcome: &Outcome) -> Option<&ErrorDetail> {
+    outcome.error.as_ref().map(|error| error.detail())
+}
+
 // Whether two outcomes are equal.
 fn is_same(a: &Outcome, b: &Outcome) -> bool {
-    a.kind == b.kind && a.id == b.id && a.status == b.status && a.error == b.error
+    a.kind == b.kind && a.id == b.id && a.status == b.status && detail_of(a) == detail_of(b)
 }
 
 // How many outcomes a reply has, by a second call if the first one's allocation failed.

@@ -14,7 +14,7 @@ ghost use Rattle.relay_world.specs.Memory.{run_outcome, answer_of};
 use crate::names::Names;
 use relay_action::{OpName, Write};
 use relay_index::{Choice, Index};
-use relay_results::{ErrorDetail, Outcome};
+use relay_results::{ItemError, Outcome};
 use std::alloc::{AllocError, Global};
 use std::marker::Model;
 
@@ -24,7 +24,7 @@ pub struct RunDone {
     /// The status of the item.
     pub status: u16,
     /// The error of the item, if it has one.
-    pub error: Option<ErrorDetail>,
+    pub error: Option<ItemError>,
 }
 
 /// The answer to a request.

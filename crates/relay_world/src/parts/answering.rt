@@ -42,7 +42,7 @@ fn entry_for(alloc: Global, op: &Op, run: &RunDone) -> Result<Outcome, AllocErro
     }) }
 {
     let error = match &run.error {
-        Some(error) => Some(error.copy()?),
+        Some(error) => Some(error.copy(alloc)?),
         None => None,
     };
     Ok(Outcome {
