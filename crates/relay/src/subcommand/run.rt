@@ -1,8 +1,10 @@
 //! `relay run`.
+use crate::options::{
+    DurationOption, NumberOption, counter_of, duration, duration_in, number, number_of, own_text,
+};
 use crate::report::{out_of_memory, usage};
-use clap::builder::ValueParser;
 use clap::{Arg, ArgAction, ArgMatches, Command};
-use relay_action::{DocKey, StdStream};
+use relay_action::StdStream;
 use relay_core::config::{
     ATTEMPT_LIMIT, BYTES_LEAST, BYTES_LIMIT, CAPACITY_LIMIT, COUNT_LIMIT, DEAL_LIMIT, EPOCH_LIMIT,
     FLYING_LIMIT, HELD_LIMIT, LANE_LIMIT, LINGER_LIMIT,
@@ -13,8 +15,8 @@ use relay_run::files::run_files;
 use relay_run::options::RunOptions;
 use relay_run::report_file::{NOT_APART, NOT_APART_LEFT_OUT};
 use relay_run::run::{Limits, RelayConfig};
-use relay_target::{AddressFault, read_address, read_name};
-use relay_words::{Exit, duration_of};
+use relay_target::{AddressFault, read_address};
+use relay_words::Exit;
 use std::alloc::{AllocError, Global};
 use std::io;
 use std::sync::Wait;
@@ -143,15 +145,6 @@ const LOG_HELP: &str =
 // The maximum number of files.
 const FILE_LIMIT: usize = 16;
 
-// An option whose value is a number from `least` to `most`.
-struct NumberOption {
-    name: &'static str,
-    least: u64,
-    most: u64,
-    default: &'static str,
-    help: &'static str,
-}
-
 // The numeric options, in the order of the help.
 const NUMBERS: &[NumberOption] = &[
     NumberOption {
@@ -221,16 +214,6 @@ const MAX_REPORTS: NumberOption = NumberOption {
     help: "Take no more input once so many operations were reported, finish what was read, and end with status 5; 0 means any number",
 };
 
-// An option whose value is a length of time, at most `most` units of `unit` milliseconds.
-struct DurationOption {
-    name: &'static str,
-    unit: u64,
-    most: u64,
-    default: &'static str,
-    help: &'static str,
-    range: &'static str,
-}
-
 const LINGER: DurationOption = DurationOption {
     name: "linger",
     unit: TICK,
@@ -263,25 +246,6 @@ const WEEK: u64 = 604_800;
 
 // The options that are lengths of time, in the order of the help.
 const DURATIONS: &[DurationOption] = &[LINGER, TIMEOUT, PATIENCE];
-
-fn number<'a>(alloc: Global, option: &NumberOption) -> Arg<'a> {
-    Arg::new(alloc, option.name)
-        .long(option.name)
-        .value_name("N")
-        .action(ArgAction::Set)
-        .value_parser(ValueParser::unsigned(option.least, option.most))
-        .default_value(option.default)
-        .help(option.help)
-}
-
-fn duration<'a>(alloc: Global, option: &DurationOption) -> Arg<'a> {
-    Arg::new(alloc, option.name)
-        .long(option.name)
-        .value_name("DURATION")
-        .action(ArgAction::Set)
-        .default_value(option.default)
-        .help(option.help)
-}
 
 // Adds these options to the command.
 fn with_numbers<'a>(alloc: Global, command: Command<'a>) -> Result<Command<'a>, AllocError> {
@@ -398,32 +362,6 @@ pub fn command<'a>(alloc: Global, name: &'static str) -> Result<Command<'a>, All
     with_outputs(alloc, with_numbers(alloc, command)?)?.arg(files)
 }
 
-// The value of a numeric option, which has a default and a range.
-fn number_of(matches: &ArgMatches<'_>, name: &str) -> u32 {
-    matches.get_one::<u32>(name).unwrap_or(0)
-}
-
-// The value of an option that is a length of time, in its units. If it is not one, or too long,
-// prints so, and returns the exit status.
-fn duration_in<R: Eprint>(
-    rt: &R,
-    matches: &ArgMatches<'_>,
-    option: &DurationOption,
-) -> Result<u32, Exit> {
-    let word = matches.get_str(option.name).unwrap_or(option.default);
-    let value = duration_of(word, option.unit.max(1)).filter(|value| *value <= option.most);
-    match value.and_then(|value| u32::try_from(value).ok()) {
-        Some(value) => Ok(value),
-        None => {
-            let (name, range) = (option.name, option.range);
-            let _ = eprintln!(rt;
-                "error: invalid value '{word}' for '--{name} <DURATION>': not a number of ms, s, m or h from {range}"
-            );
-            Err(Exit::Usage)
-        }
-    }
-}
-
 // The options that are lengths of time, each in its units.
 #[derive(Clone, Copy)]
 struct Durations {
@@ -438,29 +376,6 @@ fn durations_of<R: Eprint>(rt: &R, matches: &ArgMatches<'_>) -> Result<Durations
         timeout: duration_in(rt, matches, &TIMEOUT)?,
         patience: duration_in(rt, matches, &PATIENCE)?,
     })
-}
-
-// The value of a text option, if it was given.
-fn own_text(
-    alloc: Global,
-    matches: &ArgMatches<'_>,
-    name: &str,
-) -> Result<Option<String>, AllocError> {
-    match matches.get_str(name) {
-        Some(text) => Ok(Some(String::from_str(alloc, text)?)),
-        None => Ok(None),
-    }
-}
-
-// The counter document, if one was named. `Some(None)`: the name is not one of a document.
-fn counter_of(
-    alloc: Global,
-    matches: &ArgMatches<'_>,
-) -> Result<Option<Option<DocKey>>, AllocError> {
-    match matches.get_str(COUNTER) {
-        Some(name) => Ok(Some(read_name(alloc, name)?)),
-        None => Ok(None),
-    }
 }
 
 // The options as they were given, without the counter document.
@@ -519,8 +434,8 @@ fn log_of(matches: &ArgMatches<'_>) -> Option<Log> {
     }
 }
 
-// What is said of an address that is none.
-fn address_fault(fault: AddressFault) -> &'static str {
+/// What is said of an address that is none.
+pub fn address_fault(fault: AddressFault) -> &'static str {
     match fault {
         AddressFault::Secure => {
             "error: --to ADDR: the relay speaks plain HTTP; for https:// run a proxy on this machine, as docs/OPERATING.md shows under \"TLS, credentials and compression\""
@@ -550,7 +465,7 @@ where
     let Ok(mut options) = options_of(rt.alloc(), matches, to, &durations) else {
         return out_of_memory(rt);
     };
-    match counter_of(rt.alloc(), matches) {
+    match counter_of(rt.alloc(), matches, COUNTER) {
         Ok(None) => {}
         Ok(Some(Some(counter))) => options.epoch_from = Some(counter),
         Ok(Some(None)) => {
