@@ -1,7 +1,11 @@
-"""Third-party clients of `relay serve`: what each believes of its writes is exactly what the index behind holds."""
+"""Third-party clients of `relay serve`: what each believes of its writes is exactly what the index behind holds. They are
+Python's, Perl's, Ruby's and Go's, of the packages that Debian has; the tests of one that is not installed say so, and are skipped."""
 import json
+import os
 import random
+import shutil
 import subprocess
+import tempfile
 
 from bulk_server import Server
 from client_cases import helpers
@@ -9,8 +13,7 @@ from program import check, skip
 from run_cases import FAULTS
 from serve_cases import Serve
 
-WRITER = __file__.replace("serve_client_cases", "foreign_writer")
-WAYS = ("one_by_one", "whole", "counted", "streaming", "parallel")
+HERE = os.path.dirname(os.path.abspath(__file__))
 
 
 def actions(way, count, seed):
@@ -74,9 +77,9 @@ def judge_counted(name, server, wanted, said):
     check("%s: what was not" % name, [it["index"]["_id"] for it in failed] == [it["_id"] for it in bad], failed[:2])
 
 
-def write(name, python, serve, server, way, wanted, count):
+def write(name, command, serve, server, way, wanted, count):
     words = json.dumps({"port": serve.port, "way": way, "actions": wanted, "count": count})
-    done = subprocess.run([python, "-W", "ignore", WRITER], input=words.encode(), capture_output=True, timeout=300)
+    done = subprocess.run(command, input=words.encode(), capture_output=True, timeout=300)
     check("%s: the client ends" % name, done.returncode == 0 and done.stderr == b"", done.stderr[-600:])
     told = [json.loads(line) for line in done.stdout.splitlines()]
     if done.returncode == 0 and way == "counted":
@@ -85,20 +88,55 @@ def write(name, python, serve, server, way, wanted, count):
         judge(name, server, wanted, told, way != "parallel")
 
 
-def python_client():
-    python = helpers()
-    if python is None:
-        return skip("the Elasticsearch helpers against relay serve", "python3-elasticsearch of version 7")
+def writes(client, command, ways):
+    """The client writes in each of the ways, to an index without faults and to one with all of them."""
     dice = random.Random(54)
     for kind, plan in (("", lambda number: None), (" under faults", lambda number: dice.choice([None, None, *FAULTS]))):
         server = Server(plan, refuse=lambda meta: 400 if meta["_id"].startswith("bad") else None)
         serve = Serve(server, "--workers", "6", "--lanes", "3", "--attempts", "32")
-        for way in WAYS:
+        for way in ways:
             wanted = actions(way, 60 if way == "one_by_one" else 400, "%s%s" % (way, kind))
-            write("the Python client, %s%s" % (way, kind), python, serve, server, way, wanted, 37)
+            write("%s, %s%s" % (client, way, kind), command, serve, server, way, wanted, 37)
         status, out, err = serve.stop()
-        check("the stop after the Python client%s" % kind, (status, err) == (0, b""), (status, out, err))
+        check("the stop after %s%s" % (client, kind), (status, err) == (0, b""), (status, out, err))
         server.close()
 
 
-GROUPS = (python_client,)
+def runs(*command):
+    """Whether there is such a program, and it ends well."""
+    return shutil.which(command[0]) is not None and subprocess.run(command, capture_output=True).returncode == 0
+
+
+def python_client():
+    python = helpers()
+    if python is None:
+        return skip("the Elasticsearch helpers against relay serve", "python3-elasticsearch of version 7")
+    command = [python, "-W", "ignore", os.path.join(HERE, "foreign_writer.py")]
+    writes("the Python client", command, ("one_by_one", "whole", "counted", "streaming", "parallel"))
+
+
+def perl_client():
+    if not runs("perl", "-MSearch::Elasticsearch", "-e", "1"):
+        return skip("Perl's Search::Elasticsearch against relay serve", "libsearch-elasticsearch-perl")
+    writes("the Perl client", ["perl", os.path.join(HERE, "foreign_writer.pl")], ("one_by_one", "whole", "helper"))
+
+
+def ruby_client():
+    if not runs("ruby", "-e", "require 'elasticsearch'"):
+        return skip("Ruby's elasticsearch against relay serve", "ruby-elasticsearch")
+    writes("the Ruby client", ["ruby", "-W0", os.path.join(HERE, "foreign_writer.rb")], ("one_by_one", "whole"))
+
+
+def go_client():
+    with tempfile.TemporaryDirectory() as folder:
+        place = os.path.join(folder, "foreign_writer")
+        environment = {**os.environ, "GOPATH": "/usr/share/gocode", "GO111MODULE": "off", "GOCACHE": os.path.join(folder, "cache")}
+        if not shutil.which("go") or not os.path.exists("/usr/share/gocode/src/gopkg.in/olivere/elastic.v5"):
+            return skip("Go's olivere/elastic against relay serve", "golang-go and golang-gopkg-olivere-elastic.v5-dev")
+        done = subprocess.run(["go", "build", "-o", place, os.path.join(HERE, "foreign_writer.go")], env=environment, capture_output=True, text=True)
+        check("the Go client builds", done.returncode == 0, done.stderr[-600:])
+        if done.returncode == 0:
+            writes("the Go client", [place], ("one_by_one", "whole", "processor"))
+
+
+GROUPS = (python_client, perl_client, ruby_client, go_client)

@@ -10,12 +10,14 @@ use Rattle.relay_action.specs.declared.action.Action.{Action}
 use Rattle.relay_action.specs.declared.action.Action.TheVariants as action
 use Rattle.relay_action.specs.declared.key.DocKey.{DocKey}
 use Rattle.relay_front.specs.declared.ending.End.{End}
+use Rattle.relay_front.specs.declared.face.Face.{Face}
 use Rattle.relay_front.specs.declared.operation.AskedKind.{AskedKind}
 use Rattle.relay_front.specs.declared.operation.AskedKind.TheVariants as kind
 use Rattle.relay_front.specs.declared.service.Front.{Front}
+use Rattle.relay_front.specs.Faces.{is_coded}
 use Rattle.relay_front.specs.Operations.{Write}
 use Rattle.relay_front.specs.Routes.{Target, Bulk, Put, Add, Delete, asked_by}
-use Rattle.relay_front.specs.Service.{Settles, Reply, Answers, RefusesCoding, RepliesBy, RepliesTo, RepliesToAdd, RepliesToBulk, RepliesToBulkAt, RepliesToDelete, RepliesToDocument, RepliesToPut, RepliesToWrite, RepliesToWriter, does_write}
+use Rattle.relay_front.specs.Service.{Settles, Reply, Answers, RepliesBy, RepliesByCoding, RepliesTo, RepliesToAdd, RepliesToBulk, RepliesToBulkAt, RepliesToDelete, RepliesToDocument, RepliesToPut, RepliesToWrite, RepliesToWriter, does_write}
 
 -- nothing was settled, or these writes once
 abbrev pub SettlesOnce : {S : Type 0} → Settles S → S → S → Type 0
@@ -70,23 +72,24 @@ once_by_target settles default other content old reply new r = inl r
 
 -- ---- by the request
 
-once_by_uncoded : {S : Type 0} (settles : Settles S) (default : Option (List ℕ)) (target : Target) (content : List ℕ) (old : S) (reply : Reply) (new : S) → (RefusesCoding old reply new ⊎ RepliesTo settles default target content old reply new) → SettlesOnce settles old new
-once_by_uncoded settles default target content old reply new (inl r) = inl r.0
-once_by_uncoded settles default target content old reply new (inr r) = once_by_target settles default target content old reply new r
+once_by_coding : {S : Type 0} (coded : Bool) (settles : Settles S) (default : Option (List ℕ)) (target : Target) (content : List ℕ) (old : S) (reply : Reply) (new : S) → RepliesByCoding coded settles default target content old reply new → SettlesOnce settles old new
+once_by_coding true settles default target content old reply new r = inl r.0
+once_by_coding false settles default target content old reply new r = once_by_target settles default target content old reply new r
 
-once_by_writer : {S : Type 0} (settles : Settles S) (default : Option (List ℕ)) (target : Target) (query : Option (List ℕ)) (content : List ℕ) (old : S) (reply : Reply) (new : S) → RepliesToWriter settles default target query content old reply new → SettlesOnce settles old new
-once_by_writer settles default target query content old reply new (inl r) = inl r.2
-once_by_writer settles default target query content old reply new (inr r) = once_by_uncoded settles default target content old reply new r.1
+once_by_writer : {S : Type 0} (settles : Settles S) (default : Option (List ℕ)) (target : Target) (query : Option (List ℕ)) (coded : Bool) (content : List ℕ) (old : S) (reply : Reply) (new : S) → RepliesToWriter settles default target query coded content old reply new → SettlesOnce settles old new
+once_by_writer settles default target query coded content old reply new (inl r) = inl r.2
+once_by_writer settles default target query coded content old reply new (inr r) = once_by_coding coded settles default target content old reply new r.1
 
-once_by : {S : Type 0} (writes : Bool) (settles : Settles S) (default : Option (List ℕ)) (target : Target) (query : Option (List ℕ)) (content : List ℕ) (old : S) (reply : Reply) (new : S) → RepliesBy writes settles default target query content old reply new → SettlesOnce settles old new
-once_by true settles default target query content old reply new r = once_by_writer settles default target query content old reply new r
-once_by false settles default target query content old reply new r = inl r
+once_by : {S : Type 0} (writes : Bool) (settles : Settles S) (face : Face) (default : Option (List ℕ)) (target : Target) (request : Request (List ℕ)) (old : S) (reply : Reply) (new : S) → RepliesBy writes settles face default target request old reply new → SettlesOnce settles old new
+once_by true settles face default target request old reply new r =
+    once_by_writer settles default target (uri_query (head_of request).uri) (is_coded (head_of request).headers) (body_of request) old reply new r
+once_by false settles face default target request old reply new r = inl r.0
 
 -- a request has at most one list of writes settled
-pub answers_once : {S : Type 0} (settles : Settles S) (default : Option (List ℕ)) (old : S) (request : Request (List ℕ)) (response : Response) (new : S) → Answers settles default old request response new → SettlesOnce settles old new
-answers_once settles default old request response new a =
+pub answers_once : {S : Type 0} (settles : Settles S) (face : Face) (default : Option (List ℕ)) (old : S) (request : Request (List ℕ)) (response : Response) (new : S) → Answers settles face default old request response new → SettlesOnce settles old new
+answers_once settles face default old request response new a =
     let target = asked_by (head_of request).method (uri_path (head_of request).uri) in
-    once_by (does_write target) settles default target (uri_query (head_of request).uri) (body_of request) old a.0 new a.1
+    once_by (does_write target) settles face default target request old a.0 new a.1
 
 -- ---- by the calls of a service
 
@@ -102,12 +105,13 @@ kept_once settles keeps kept old new (inr s) = kept.each old new s.0 s.1 s.2
 
 -- what a front's call does
 abbrev pub FrontAnswers : {S I : Type 0} → Settles S → Front S I → Request (List ℕ) → Response → Front S I → Type 0
-FrontAnswers settles old request response new = (new.index ≡ old.index) × Answers settles (bytes_given old.index) old.relay request response new.relay
+FrontAnswers settles old request response new =
+    (new.index ≡ old.index) × (new.face ≡ old.face) × Answers settles old.face (bytes_given old.index) old.relay request response new.relay
 
 -- calls of a front keep what settling keeps
 pub chain_keeps : {S I : Type 0} (settles : Settles S) (keeps : S → S → Type 0) → IsKept settles keeps → (old new : Front S I) (calls : List Call) → Chain (FrontAnswers settles) old calls new → keeps old.relay new.relay
 chain_keeps {S} {I} settles keeps kept old new [] same = subst (λ (f : Front S I). keeps old.relay f.relay) (sym same) (kept.same old.relay)
 chain_keeps {S} {I} settles keeps kept old new (c ∷ calls) h =
     let next = h.0 in
-    let first = kept_once settles keeps kept old.relay next.relay (answers_once settles (bytes_given old.index) old.relay c.0 c.1 next.relay h.1.1) in
+    let first = kept_once settles keeps kept old.relay next.relay (answers_once settles old.face (bytes_given old.index) old.relay c.0 c.1 next.relay h.1.2) in
     kept.on old.relay next.relay new.relay first (chain_keeps settles keeps kept next new calls h.2)

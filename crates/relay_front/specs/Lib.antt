@@ -8,4 +8,5 @@ pub mod Texts
 pub mod Bodies
 pub mod Metadata
 pub mod Operations
+pub mod Faces
 pub mod Service

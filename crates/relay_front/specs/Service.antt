@@ -3,14 +3,17 @@ use Rattle.std.specs.Prelude.{◌≡◌, ◌≢◌, ◌⊎◌, ℕ, Bool, true, 
 use Rattle.std.specs.Str.{is_utf8}
 use Rattle.percent_encoding.specs.Percent.{percent_decode}
 use Rattle.http.specs.declared.request.Request.{Request}
+use Rattle.http.specs.declared.request.Parts.{Parts}
 use Rattle.http.specs.Request.{head_of, body_of}
-use Rattle.http_uri.specs.Uri.{uri_path, uri_query}
+use Rattle.http_uri.specs.Uri.{uri_authority, uri_path, uri_query}
+use Rattle.http_header.specs.HeaderMap.{get}
 use Rattle.http_server.specs.declared.response.Response.{Response}
 use Rattle.relay_action.specs.Actions.{IsIndexOf}
 use Rattle.relay_action.specs.declared.action.Action.{Action}
 use Rattle.relay_action.specs.declared.action.Action.TheVariants as action
 use Rattle.relay_action.specs.declared.key.DocKey.{DocKey}
 use Rattle.relay_front.specs.declared.ending.End.{End}
+use Rattle.relay_front.specs.declared.face.Face.{Face}
 use Rattle.relay_front.specs.declared.lines.BodyFault.{BodyFault}
 use Rattle.relay_front.specs.declared.lines.BodyFaultKind.{BodyFaultKind}
 use Rattle.relay_front.specs.declared.lines.BodyFaultKind.TheVariants as body
@@ -21,10 +24,11 @@ use Rattle.relay_front.specs.declared.operation.ItemFault.{ItemFault}
 use Rattle.relay_front.specs.declared.replying.Answer.{Answer}
 use Rattle.relay_front.specs.declared.replying.Short.{Short}
 use Rattle.relay_front.specs.declared.replying.Short.TheVariants as short
+use Rattle.relay_front.specs.Faces.{IsAddress, cluster_health, compact_health, info_of, is_coded, license, nodes_body}
 use Rattle.relay_front.specs.Operations.{Write, HasRead, BreaksBody, key_by, source_reason}
 use Rattle.relay_front.specs.Queries.{meaning_of}
 use Rattle.relay_front.specs.Reasons.{reason_of}
-use Rattle.relay_front.specs.Routes.{Target, Bulk, Put, Add, Delete, asked_by}
+use Rattle.relay_front.specs.Routes.{Target, Info, ClusterHealth, CatHealth, Nodes, License, IndexExists, Bulk, Put, Add, Delete, Method, asked_by}
 use Rattle.relay_front.specs.Said.{said_by}
 use Rattle.relay_front.specs.Texts.{bulk_body, document_body, document_status, first_end, illegal_argument, refusal_body}
 
@@ -179,25 +183,44 @@ meaning_in query = option_and_then meaning_of query
 abbrev pub parameter_reason : List ℕ → List ℕ
 parameter_reason name = codes "the relay does not support the parameter [" ++ (name ++ codes "]")
 
--- the coding of the body is refused, whichever it is
+-- the coding of the body is refused
 abbrev pub RefusesCoding : {S : Type 0} → S → Reply → S → Type 0
 RefusesCoding old reply new =
     (new ≡ old) × IsReply 415 (refusal_body 415 illegal_argument (codes "the relay takes no [content-encoding]; send the body as it is")) reply
 
-abbrev pub RepliesToWriter : {S : Type 0} → Settles S → Option (List ℕ) → Target → Option (List ℕ) → List ℕ → S → Reply → S → Type 0
-RepliesToWriter settles default target query content old reply new =
+-- a body with a coding is refused, and no other body for its coding
+abbrev pub RepliesByCoding : {S : Type 0} → Bool → Settles S → Option (List ℕ) → Target → List ℕ → S → Reply → S → Type 0
+RepliesByCoding true settles default target content old reply new = RefusesCoding old reply new
+RepliesByCoding false settles default target content old reply new = RepliesTo settles default target content old reply new
+
+abbrev pub RepliesToWriter : {S : Type 0} → Settles S → Option (List ℕ) → Target → Option (List ℕ) → Bool → List ℕ → S → Reply → S → Type 0
+RepliesToWriter settles default target query coded content old reply new =
     ((name : List ℕ) × (meaning_in query ≡ Some name) × (new ≡ old) × Refuses (parameter_reason name) reply)
-    ⊎ ((meaning_in query ≡ None) × (RefusesCoding old reply new ⊎ RepliesTo settles default target content old reply new))
+    ⊎ ((meaning_in query ≡ None) × RepliesByCoding coded settles default target content old reply new)
 
-abbrev pub RepliesBy : {S : Type 0} → Bool → Settles S → Option (List ℕ) → Target → Option (List ℕ) → List ℕ → S → Reply → S → Type 0
-RepliesBy true settles default target query content old reply new = RepliesToWriter settles default target query content old reply new
-RepliesBy false settles default target query content old reply new = new ≡ old
+-- a request that writes nothing: what is replied is settled by the request and by what the relay says that it is
+abbrev pub RepliesToReader : Face → Target → Parts → Reply → Type 0
+RepliesToReader face Info head reply = IsReply 200 (info_of face) reply
+RepliesToReader face ClusterHealth head reply = IsReply 200 cluster_health reply
+RepliesToReader face CatHealth head reply = IsReply 200 compact_health reply
+RepliesToReader face License head reply = IsReply 200 license reply
+RepliesToReader face Nodes head reply =
+    (address : List ℕ) × IsAddress (uri_authority head.uri) (get head.headers (codes "host")) address × IsReply 200 (nodes_body address) reply
+RepliesToReader face IndexExists head reply = IsReply 200 [] reply
+RepliesToReader face (Method allow) head reply =
+    IsReply 405 (refusal_body 405 illegal_argument (codes "the relay does not take this method for this target")) reply
+RepliesToReader face other head reply = Refuses (codes "the relay has no such target: it takes writes by [_bulk] and [_doc]") reply
 
--- what is replied to a request, given the index of operations that name none
-abbrev pub RepliesToRequest : {S : Type 0} → Settles S → Option (List ℕ) → Request (List ℕ) → S → Reply → S → Type 0
-RepliesToRequest settles default request old reply new =
+abbrev pub RepliesBy : {S : Type 0} → Bool → Settles S → Face → Option (List ℕ) → Target → Request (List ℕ) → S → Reply → S → Type 0
+RepliesBy true settles face default target request old reply new =
+    RepliesToWriter settles default target (uri_query (head_of request).uri) (is_coded (head_of request).headers) (body_of request) old reply new
+RepliesBy false settles face default target request old reply new = (new ≡ old) × RepliesToReader face target (head_of request) reply
+
+-- what is replied to a request, given what the relay says that it is, and the index of operations that name none
+abbrev pub RepliesToRequest : {S : Type 0} → Settles S → Face → Option (List ℕ) → Request (List ℕ) → S → Reply → S → Type 0
+RepliesToRequest settles face default request old reply new =
     let target = asked_by (head_of request).method (uri_path (head_of request).uri) in
-    RepliesBy (does_write target) settles default target (uri_query (head_of request).uri) (body_of request) old reply new
+    RepliesBy (does_write target) settles face default target request old reply new
 
 -- a status that is none of HTTP (RFC 9110, section 15) is shown as 502
 abbrev pub status_shown : ℕ → ℕ
@@ -210,9 +233,9 @@ IsSaid NoMemory r = r.status ≡ 503
 IsSaid NoAnswer r = r.status ≡ 503
 
 -- the response is the reply, or says that memory ran out for it
-abbrev pub Answers : {S : Type 0} → Settles S → Option (List ℕ) → S → Request (List ℕ) → Response → S → Type 0
-Answers settles default old request response new =
-    (reply : Reply) × RepliesToRequest settles default request old reply new × (IsSaid reply response ⊎ IsSaid NoAnswer response)
+abbrev pub Answers : {S : Type 0} → Settles S → Face → Option (List ℕ) → S → Request (List ℕ) → Response → S → Type 0
+Answers settles face default old request response new =
+    (reply : Reply) × RepliesToRequest settles face default request old reply new × (IsSaid reply response ⊎ IsSaid NoAnswer response)
 
 -- ---- for private clauses
 

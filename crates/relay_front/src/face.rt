@@ -1,4 +1,6 @@
 //! What the relay says that it is.
+ghost use Rattle.std.specs.Prelude.{◌≡◌};
+ghost use Rattle.relay_front.specs.Faces.{info_of};
 
 /// What the relay says that it is, to clients that ask before they write.
 #[derive(Clone, Copy, Debug, PartialEq, Eq)]
@@ -21,7 +23,9 @@ impl Face {
     }
 
     /// The body of the answer to `GET /`.
-    pub fn info(self) -> &'static str {
+    pub fn info(self) -> &'static str
+        ensures { result.now ≡ info_of self.entry }
+    {
         match self {
             Face::Compatible => COMPATIBLE,
             Face::OpenSearch => OPENSEARCH,

@@ -1,9 +1,13 @@
 //! The service.
-ghost use Rattle.std.specs.Prelude.{◌≡◌, OnOk};
+ghost use Rattle.std.specs.Prelude.{◌≡◌, OnOk, ℕ, List, codes};
 ghost use Rattle.relay_ndjson.specs.Metadata.{bytes_given};
+ghost use Rattle.http.specs.Request.{head_of};
+ghost use Rattle.http_uri.specs.Uri.{uri_authority};
+ghost use Rattle.http_header.specs.HeaderMap.{get};
+ghost use Rattle.relay_front.specs.Faces.{IsAddress, is_coded, nodes_body};
 ghost use Rattle.relay_front.specs.Routes.{target_of};
-ghost use Rattle.relay_front.specs.Service.{Answers, RepliesToRequest, does_write, reply_of};
-ghost use Rattle.relay_front.specs.Service.{status_shown};
+ghost use Rattle.relay_front.specs.Service.{Answers, IsReply, RepliesToReader, RepliesToRequest};
+ghost use Rattle.relay_front.specs.Service.{does_write, reply_of, status_shown};
 
 use crate::face::Face;
 use crate::refusal::{FAILED_ROOM, ILLEGAL_ARGUMENT, NO_ANSWER, NO_MEMORY};
@@ -33,7 +37,10 @@ pub struct Front<'a, S, I> {
 }
 
 // The address that the client used: the field `host`, or that of the target.
-fn address_of(request: &Request<Bytes>) -> &str {
+fn address_of(request: &Request<Bytes>) -> &str
+    ensures { IsAddress (uri_authority (head_of request.now).uri)
+        (get (head_of request.now).headers (codes "host")) result.now }
+{
     if let Some(authority) = request.uri().authority() {
         return authority.as_str();
     }
@@ -61,7 +68,10 @@ fn does_write(route: Route<'_>) -> bool
     )
 }
 
-fn is_coded(request: &Request<Bytes>) -> bool {
+// Whether the body has a coding.
+fn is_coded(request: &Request<Bytes>) -> bool
+    ensures { result ≡ is_coded (head_of request.now).headers }
+{
     match request.headers().get(header::CONTENT_ENCODING) {
         Some(coding) => coding.as_bytes() != b"identity".as_slice(),
         None => false,
@@ -69,14 +79,20 @@ fn is_coded(request: &Request<Bytes>) -> bool {
 }
 
 impl<'a, S: Settle, I: Ids> Front<'a, S, I> {
-    fn text(&self, text: &str) -> Result<Answer, Short> {
+    fn text(&self, text: &str) -> Result<Answer, Short>
+        ensures { IsReply 200 text.now (reply_of result) }
+    {
         let mut bytes = Vec::new(self.alloc);
         add(&mut bytes, text)?;
         Ok(answer_of(200, bytes))
     }
 
     // One node, at the address that the client used.
-    fn nodes(&self, request: &Request<Bytes>) -> Result<Answer, Short> {
+    fn nodes(&self, request: &Request<Bytes>) -> Result<Answer, Short>
+        ensures { (address : List ℕ) × IsAddress (uri_authority (head_of request.now).uri)
+            (get (head_of request.now).headers (codes "host")) address
+            × IsReply 200 (nodes_body address) (reply_of result) }
+    {
         let address = address_of(request);
         let alloc = self.alloc;
         let mut text = Vec::new(alloc);
@@ -93,9 +109,10 @@ impl<'a, S: Settle, I: Ids> Front<'a, S, I> {
 
     // The answer to a request.
     fn respond(&mut self, request: &Request<Bytes>) -> Result<Answer, Short>
-        ensures reply { RepliesToRequest S.settles (bytes_given self.old.index) request.now
-            self.old.relay (reply_of result) self.new.relay }
+        ensures reply { RepliesToRequest S.settles self.old.face (bytes_given self.old.index)
+            request.now self.old.relay (reply_of result) self.new.relay }
         ensures index { self.new.index ≡ self.old.index }
+        ensures face { self.new.face ≡ self.old.face }
     {
         let uri = request.uri();
         let route = route_of(request.method().as_str(), uri.path());
@@ -115,7 +132,10 @@ impl<'a, S: Settle, I: Ids> Front<'a, S, I> {
     }
 
     // The answer to a request that writes nothing.
-    fn look(&self, route: Route<'_>, request: &Request<Bytes>) -> Result<Answer, Short> {
+    fn look(&self, route: Route<'_>, request: &Request<Bytes>) -> Result<Answer, Short>
+        ensures { RepliesToReader self.now.face (target_of route.entry) (head_of request.now)
+            (reply_of result) }
+    {
         match route {
             Route::Info => self.text(self.face.info()),
             Route::ClusterHealth => self.text(CLUSTER_HEALTH),
@@ -196,8 +216,8 @@ fn fill(response: &mut Response, status: u16, text: Vec<u8>) -> Result<(), Alloc
 }
 
 impl<'a, S: Settle, I: Ids> Service for Front<'a, S, I> {
-    ghost answers = { λ old request response new. (new.index ≡ old.index)
-        × Answers S.settles (bytes_given old.index) old.relay request response new.relay };
+    ghost answers = { λ old request response new. (new.index ≡ old.index) × (new.face ≡ old.face)
+        × Answers S.settles old.face (bytes_given old.index) old.relay request response new.relay };
 
     fn call(
         &mut self,

@@ -136,7 +136,7 @@ pub fn reply_to_writer<S: Settle, I: Ids>(
     ids: &mut I,
 ) -> Result<Answer, Short>
     ensures { RepliesToWriter S.settles (bytes_given default.entry) (target_of route.entry)
-        (bytes_given query.entry) body.now relay.old (reply_of result) relay.new }
+        (bytes_given query.entry) is_coded body.now relay.old (reply_of result) relay.new }
 {
     if let Some(name) = meaning_in(query) {
         return refuse_parameter(alloc, name);
