@@ -6,7 +6,24 @@ use relay_target::read_name;
 use relay_words::{Exit, duration_of};
 use std::alloc::{AllocError, Global};
 
+/// An option whose value is a text.
+#[derive(Clone, Copy)]
+pub struct TextOption {
+    pub name: &'static str,
+    /// What its value is called in the help.
+    pub value: &'static str,
+    pub help: &'static str,
+}
+
+/// An option without a value.
+#[derive(Clone, Copy)]
+pub struct FlagOption {
+    pub name: &'static str,
+    pub help: &'static str,
+}
+
 /// An option whose value is a number from `least` to `most`.
+#[derive(Clone, Copy)]
 pub struct NumberOption {
     pub name: &'static str,
     pub least: u64,
@@ -16,6 +33,7 @@ pub struct NumberOption {
 }
 
 /// An option whose value is a length of time, at most `most` units of `unit` milliseconds.
+#[derive(Clone, Copy)]
 pub struct DurationOption {
     pub name: &'static str,
     pub unit: u64,
@@ -25,60 +43,94 @@ pub struct DurationOption {
     pub range: &'static str,
 }
 
-pub fn number<'a>(alloc: Global, option: &NumberOption) -> Arg<'a> {
-    Arg::new(alloc, option.name)
-        .long(option.name)
-        .value_name("N")
-        .action(ArgAction::Set)
-        .value_parser(ValueParser::unsigned(option.least, option.most))
-        .default_value(option.default)
-        .help(option.help)
-}
+impl TextOption {
+    pub fn arg<'a>(&self, alloc: Global) -> Arg<'a> {
+        Arg::new(alloc, self.name)
+            .long(self.name)
+            .value_name(self.value)
+            .action(ArgAction::Set)
+            .help(self.help)
+    }
 
-pub fn duration<'a>(alloc: Global, option: &DurationOption) -> Arg<'a> {
-    Arg::new(alloc, option.name)
-        .long(option.name)
-        .value_name("DURATION")
-        .action(ArgAction::Set)
-        .default_value(option.default)
-        .help(option.help)
-}
+    /// The value, if it was given or has a default.
+    pub fn get<'m>(&self, matches: &'m ArgMatches<'_>) -> Option<&'m str> {
+        matches.get_str(self.name)
+    }
 
-/// The value of a numeric option, which has a default and a range.
-pub fn number_of(matches: &ArgMatches<'_>, name: &str) -> u32 {
-    matches.get_one::<u32>(name).unwrap_or(0)
-}
-
-/// The value of an option that is a length of time, in its units. If it is not one, or too long,
-/// prints so, and returns the exit status.
-pub fn duration_in<R: Eprint>(
-    rt: &R,
-    matches: &ArgMatches<'_>,
-    option: &DurationOption,
-) -> Result<u32, Exit> {
-    let word = matches.get_str(option.name).unwrap_or(option.default);
-    let value = duration_of(word, option.unit.max(1)).filter(|value| *value <= option.most);
-    match value.and_then(|value| u32::try_from(value).ok()) {
-        Some(value) => Ok(value),
-        None => {
-            let (name, range) = (option.name, option.range);
-            let _ = eprintln!(rt;
-                "error: invalid value '{word}' for '--{name} <DURATION>': not a number of ms, s, m or h from {range}"
-            );
-            Err(Exit::Usage)
+    /// A copy of the value, if there is one.
+    pub fn own(
+        &self,
+        alloc: Global,
+        matches: &ArgMatches<'_>,
+    ) -> Result<Option<String>, AllocError> {
+        match self.get(matches) {
+            Some(text) => Ok(Some(String::from_str(alloc, text)?)),
+            None => Ok(None),
         }
     }
 }
 
-/// The value of a text option, if it was given.
-pub fn own_text(
-    alloc: Global,
-    matches: &ArgMatches<'_>,
-    name: &str,
-) -> Result<Option<String>, AllocError> {
-    match matches.get_str(name) {
-        Some(text) => Ok(Some(String::from_str(alloc, text)?)),
-        None => Ok(None),
+impl FlagOption {
+    pub fn arg<'a>(&self, alloc: Global) -> Arg<'a> {
+        Arg::new(alloc, self.name)
+            .long(self.name)
+            .action(ArgAction::SetTrue)
+            .help(self.help)
+    }
+
+    /// Whether it was given.
+    pub fn is_given(&self, matches: &ArgMatches<'_>) -> bool {
+        matches.get_flag(self.name)
+    }
+}
+
+impl NumberOption {
+    pub fn arg<'a>(&self, alloc: Global) -> Arg<'a> {
+        Arg::new(alloc, self.name)
+            .long(self.name)
+            .value_name("N")
+            .action(ArgAction::Set)
+            .value_parser(ValueParser::unsigned(self.least, self.most))
+            .default_value(self.default)
+            .help(self.help)
+    }
+
+    /// The value, which is there since the option has a default.
+    pub fn get(&self, matches: &ArgMatches<'_>) -> u64 {
+        matches.get_one::<u64>(self.name).unwrap_or(self.least)
+    }
+
+    /// The same for an option whose values have 32 bits.
+    pub fn get_u32(&self, matches: &ArgMatches<'_>) -> u32 {
+        u32::try_from(self.get(matches)).unwrap_or(u32::MAX)
+    }
+}
+
+impl DurationOption {
+    pub fn arg<'a>(&self, alloc: Global) -> Arg<'a> {
+        Arg::new(alloc, self.name)
+            .long(self.name)
+            .value_name("DURATION")
+            .action(ArgAction::Set)
+            .default_value(self.default)
+            .help(self.help)
+    }
+
+    /// The value in its units. If it is not a length of time, or too long, prints so, and returns
+    /// the exit status.
+    pub fn get<R: Eprint>(&self, rt: &R, matches: &ArgMatches<'_>) -> Result<u32, Exit> {
+        let word = matches.get_str(self.name).unwrap_or(self.default);
+        let value = duration_of(word, self.unit.max(1)).filter(|value| *value <= self.most);
+        match value.and_then(|value| u32::try_from(value).ok()) {
+            Some(value) => Ok(value),
+            None => {
+                let (name, range) = (self.name, self.range);
+                let _ = eprintln!(rt;
+                    "error: invalid value '{word}' for '--{name} <DURATION>': not a number of ms, s, m or h from {range}"
+                );
+                Err(Exit::Usage)
+            }
+        }
     }
 }
 
@@ -86,9 +138,9 @@ pub fn own_text(
 pub fn counter_of(
     alloc: Global,
     matches: &ArgMatches<'_>,
-    name: &str,
+    option: &TextOption,
 ) -> Result<Option<Option<DocKey>>, AllocError> {
-    match matches.get_str(name) {
+    match option.get(matches) {
         Some(name) => Ok(Some(read_name(alloc, name)?)),
         None => Ok(None),
     }

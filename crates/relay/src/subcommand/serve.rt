@@ -1,10 +1,9 @@
 //! `relay serve`.
-use crate::options::{
-    DurationOption, NumberOption, counter_of, duration, duration_in, number, number_of, own_text,
-};
+use crate::options::{DurationOption, NumberOption, TextOption, counter_of};
 use crate::report::{out_of_memory, usage};
 use crate::subcommand::run::address_fault;
-use clap::{Arg, ArgAction, ArgMatches, Command};
+use clap::builder::ValueParser;
+use clap::{ArgMatches, Command};
 use relay_action::{DocKey, StdStream};
 use relay_batch::Limits;
 use relay_core::config::{
@@ -61,45 +60,90 @@ The exit status is 0 after the end of standard input, 1 if the command line is i
 --epoch-file holds no epoch, 3 if it cannot listen, has no epoch, or a lane's thread failed, and 4 if memory
 ran out.";
 
-const COUNTER: &str = "epoch-from";
+const LISTEN: TextOption = TextOption {
+    name: "listen",
+    value: "ADDR",
+    help: "Where to listen, HOST:PORT: an address or a name of this machine, and a port",
+};
 
-const NUMBERS: &[NumberOption] = &[
-    NumberOption {
-        name: "workers",
-        least: 1,
-        most: PRODUCER_LIMIT as u64,
-        default: "64",
-        help: "Number of requests that are settled at the same time, 1 to 256",
-    },
-    NumberOption {
-        name: "lanes",
-        least: 1,
-        most: LANE_LIMIT as u64,
-        default: "4",
-        help: "Number of lanes, 1 to 8, each with its own connection to the index",
-    },
-    NumberOption {
-        name: "count",
-        least: 1,
-        most: COUNT_LIMIT as u64,
-        default: "500",
-        help: "Maximum number of operations in a request to the index, 1 to 10000",
-    },
-    NumberOption {
-        name: "bytes",
-        least: BYTES_LEAST,
-        most: BYTES_LIMIT,
-        default: "1048576",
-        help: "Maximum size of the body of a request to the index in bytes, 1024 to 16777216; a single operation may have more",
-    },
-    NumberOption {
-        name: "attempts",
-        least: 1,
-        most: ATTEMPT_LIMIT as u64,
-        default: "7",
-        help: "Maximum number of requests that carry an operation, not counting those halved after a 413, 1 to 32; between 7 of them its lane pauses for 6.3 s in all",
-    },
-];
+const TO: TextOption = TextOption {
+    name: "to",
+    value: "ADDR",
+    help: "The address of the index, HOST:PORT, 1 to 255 visible ASCII characters; `http://` before it is dropped",
+};
+
+const INDEX: TextOption = TextOption {
+    name: "index",
+    value: "NAME",
+    help: "The index of operations that do not name one, if neither does the path [default: none]",
+};
+
+const FACE: TextOption = TextOption {
+    name: "face",
+    value: "FACE",
+    help: "What it says that it is: `compatible`, which the clients of OpenSearch and of Elasticsearch take, or `opensearch`",
+};
+
+const COUNTER: TextOption = TextOption {
+    name: "epoch-from",
+    value: "INDEX/ID",
+    help: "Take the epoch from the index, as `relay run` does",
+};
+
+const EPOCH_FILE: TextOption = TextOption {
+    name: "epoch-file",
+    value: "PATH",
+    help: "Take the epoch from this file: one more than it holds",
+};
+
+const EPOCH: TextOption = TextOption {
+    name: "epoch",
+    value: "N",
+    help: "The epoch, above those of all earlier runs, from 0 to 4194303",
+};
+
+const WORKERS: NumberOption = NumberOption {
+    name: "workers",
+    least: 1,
+    most: PRODUCER_LIMIT as u64,
+    default: "64",
+    help: "Number of requests that are settled at the same time, 1 to 256",
+};
+
+const LANES: NumberOption = NumberOption {
+    name: "lanes",
+    least: 1,
+    most: LANE_LIMIT as u64,
+    default: "4",
+    help: "Number of lanes, 1 to 8, each with its own connection to the index",
+};
+
+const COUNT: NumberOption = NumberOption {
+    name: "count",
+    least: 1,
+    most: COUNT_LIMIT as u64,
+    default: "500",
+    help: "Maximum number of operations in a request to the index, 1 to 10000",
+};
+
+const BYTES: NumberOption = NumberOption {
+    name: "bytes",
+    least: BYTES_LEAST,
+    most: BYTES_LIMIT,
+    default: "1048576",
+    help: "Maximum size of the body of a request to the index in bytes, 1024 to 16777216; a single operation may have more",
+};
+
+const ATTEMPTS: NumberOption = NumberOption {
+    name: "attempts",
+    least: 1,
+    most: ATTEMPT_LIMIT as u64,
+    default: "7",
+    help: "Maximum number of requests that carry an operation, not counting those halved after a 413, 1 to 32; between 7 of them its lane pauses for 6.3 s in all",
+};
+
+// The numeric options, in the order of the help.
+const NUMBERS: &[NumberOption] = &[WORKERS, LANES, COUNT, BYTES, ATTEMPTS];
 
 const TIMEOUT: DurationOption = DurationOption {
     name: "timeout",
@@ -139,83 +183,33 @@ const IDLE: DurationOption = DurationOption {
 
 const DURATIONS: &[DurationOption] = &[WITHIN, TIMEOUT, PATIENCE, IDLE];
 
-fn text<'a>(alloc: Global, name: &'static str, value: &'static str, help: &'static str) -> Arg<'a> {
-    Arg::new(alloc, name)
-        .long(name)
-        .value_name(value)
-        .action(ArgAction::Set)
-        .help(help)
-}
-
 // The options for the epoch.
 fn with_epochs<'a>(alloc: Global, command: Command<'a>) -> Result<Command<'a>, AllocError> {
-    let counter = text(
-        alloc,
-        COUNTER,
-        "INDEX/ID",
-        "Take the epoch from the index, as `relay run` does",
-    );
-    let file = text(
-        alloc,
-        "epoch-file",
-        "PATH",
-        "Take the epoch from this file: one more than it holds",
-    )
-    .conflicts_with(COUNTER)?;
-    let epoch = text(
-        alloc,
-        "epoch",
-        "N",
-        "The epoch, above those of all earlier runs, from 0 to 4194303",
-    )
-    .value_parser(clap::builder::ValueParser::unsigned(0, EPOCH_LIMIT as u64))
-    .conflicts_with(COUNTER)?
-    .conflicts_with("epoch-file")?;
-    command.arg(counter)?.arg(file)?.arg(epoch)
+    let file = EPOCH_FILE.arg(alloc).conflicts_with(COUNTER.name)?;
+    let epoch = EPOCH
+        .arg(alloc)
+        .value_parser(ValueParser::unsigned(0, EPOCH_LIMIT as u64))
+        .conflicts_with(COUNTER.name)?
+        .conflicts_with(EPOCH_FILE.name)?;
+    command.arg(COUNTER.arg(alloc))?.arg(file)?.arg(epoch)
 }
 
 /// Its help and its options.
 pub fn command<'a>(alloc: Global, name: &'static str) -> Result<Command<'a>, AllocError> {
-    let listen = text(
-        alloc,
-        "listen",
-        "ADDR",
-        "Where to listen, HOST:PORT: an address or a name of this machine, and a port",
-    )
-    .required(true);
-    let to = text(
-        alloc,
-        "to",
-        "ADDR",
-        "The address of the index, HOST:PORT, 1 to 255 visible ASCII characters; `http://` before it is dropped",
-    )
-    .required(true);
-    let index = text(
-        alloc,
-        "index",
-        "NAME",
-        "The index of operations that do not name one, if neither does the path [default: none]",
-    );
-    let face = text(
-        alloc,
-        "face",
-        "FACE",
-        "What it says that it is: `compatible`, which the clients of OpenSearch and of Elasticsearch take, or `opensearch`",
-    )
-    .default_value("compatible");
+    let face = FACE.arg(alloc).default_value("compatible");
     let mut command = Command::new(alloc, name)
         .about(ABOUT)
         .long_about(LONG_ABOUT)
-        .arg(listen)?
-        .arg(to)?
-        .arg(index)?
+        .arg(LISTEN.arg(alloc).required(true))?
+        .arg(TO.arg(alloc).required(true))?
+        .arg(INDEX.arg(alloc))?
         .arg(face)?;
     command = with_epochs(alloc, command)?;
     for option in NUMBERS {
-        command = command.arg(number(alloc, option))?;
+        command = command.arg(option.arg(alloc))?;
     }
     for option in DURATIONS {
-        command = command.arg(duration(alloc, option))?;
+        command = command.arg(option.arg(alloc))?;
     }
     Ok(command)
 }
@@ -231,10 +225,10 @@ struct Durations {
 
 fn durations_of<R: Eprint>(rt: &R, matches: &ArgMatches<'_>) -> Result<Durations, Exit> {
     Ok(Durations {
-        timeout: duration_in(rt, matches, &TIMEOUT)?,
-        patience: duration_in(rt, matches, &PATIENCE)?,
-        within: duration_in(rt, matches, &WITHIN)?,
-        idle: duration_in(rt, matches, &IDLE)?,
+        timeout: TIMEOUT.get(rt, matches)?,
+        patience: PATIENCE.get(rt, matches)?,
+        within: WITHIN.get(rt, matches)?,
+        idle: IDLE.get(rt, matches)?,
     })
 }
 
@@ -258,17 +252,17 @@ fn epoch_of<R: Eprint + AllocGlobal>(
     rt: &R,
     matches: &ArgMatches<'_>,
 ) -> Result<EpochSource, Exit> {
-    match counter_of(rt.alloc(), matches, COUNTER) {
+    match counter_of(rt.alloc(), matches, &COUNTER) {
         Ok(Some(named)) => return counter(rt, named),
         Ok(None) => {}
         Err(_) => return Err(out_of_memory(rt)),
     }
-    match own_text(rt.alloc(), matches, "epoch-file") {
+    match EPOCH_FILE.own(rt.alloc(), matches) {
         Ok(Some(path)) => return Ok(EpochSource::File(path)),
         Ok(None) => {}
         Err(_) => return Err(out_of_memory(rt)),
     }
-    match matches.get_one::<u32>("epoch") {
+    match matches.get_one::<u32>(EPOCH.name) {
         Some(epoch) => Ok(EpochSource::Given(epoch)),
         None => Err(usage(rt, NO_EPOCH)),
     }
@@ -276,16 +270,16 @@ fn epoch_of<R: Eprint + AllocGlobal>(
 
 fn config_of(matches: &ArgMatches<'_>) -> RelayConfig {
     RelayConfig {
-        lanes: number_of(matches, "lanes"),
-        producers: number_of(matches, "workers"),
+        lanes: LANES.get_u32(matches),
+        producers: WORKERS.get_u32(matches),
         capacity: 1,
         max_held: 1,
         limits: Limits {
-            count: number_of(matches, "count"),
-            bytes: matches.get_one::<u64>("bytes").unwrap_or(0),
+            count: COUNT.get_u32(matches),
+            bytes: BYTES.get(matches),
             linger: 0,
         },
-        attempts: number_of(matches, "attempts"),
+        attempts: ATTEMPTS.get_u32(matches),
         in_flight: 1,
         epoch: 0,
         deal: DEAL_LIMIT,
@@ -301,9 +295,9 @@ fn options_of(
     durations: &Durations,
 ) -> Result<ServeOptions, AllocError> {
     Ok(ServeOptions {
-        listen: String::from_str(alloc, matches.get_str("listen").unwrap_or(""))?,
+        listen: String::from_str(alloc, LISTEN.get(matches).unwrap_or(""))?,
         to: String::from_str(alloc, to)?,
-        index: own_text(alloc, matches, "index")?,
+        index: INDEX.own(alloc, matches)?,
         face,
         config: config_of(matches),
         epoch,
@@ -323,11 +317,11 @@ where
         Ok(durations) => durations,
         Err(exit) => return exit,
     };
-    let to = match read_address(matches.get_str("to").unwrap_or("")) {
+    let to = match read_address(TO.get(matches).unwrap_or("")) {
         Ok(address) => address,
         Err(fault) => return usage(rt, address_fault(fault)),
     };
-    let Some(face) = Face::named(matches.get_str("face").unwrap_or("")) else {
+    let Some(face) = Face::named(FACE.get(matches).unwrap_or("")) else {
         return usage(rt, NO_FACE);
     };
     let epoch = match epoch_of(rt, matches) {
