@@ -11,9 +11,10 @@ LINES, APPLY, WORLD, RUN, PICK, STUB = ("`relay %s`" % it for it in ("lines", "a
 REPLIES, ITEM, WHOLE, WRITTEN = "Replies", "The verdict on an item", "The verdict on a whole request", "A written reply"
 LANE, SCRIPT, HTTP, COMING = "What a lane does", "The script of the world", "HTTP", "Faults while the bytes come"
 MESSAGES, EPOCHS = "Written messages", "An epoch from the index"
+SERVE, REQUESTS, OPERATIONS, ANSWERS = "`relay serve`", "Requests", "Operations of a body", "Answers"
 
 HOMES = {
-    "relay": (CODE, {"the options of %s" % it: it for it in (LINES, APPLY, WORLD, RUN, PICK, STUB)}),
+    "relay": (CODE, {"the options of %s" % it: it for it in (LINES, APPLY, WORLD, RUN, SERVE, PICK, STUB)}),
     "relay_action": (CODE, {
         "limits of index names": "Limits",
         "the order of refusals": KINDS,
@@ -45,6 +46,17 @@ HOMES = {
     }),
     "relay_epoch": (EPOCHS, {}),
     "relay_flight": (LANE, {}),
+    "relay_front": (ANSWERS, {
+        "what a request asks for": REQUESTS,
+        "parameters that are ignored": REQUESTS,
+        "bodies that have a coding": REQUESTS,
+        "the lines of a body": OPERATIONS,
+        "the operations of a body": OPERATIONS,
+        "members of an action line": OPERATIONS,
+        "why an operation is refused": OPERATIONS,
+        "what is settled for": (REQUESTS, ANSWERS),
+        "a request has its writes": CODE,
+    }),
     "relay_held": (LANE, {}),
     "relay_http": (HTTP, {
         "heads of replies": "A reply",
@@ -112,6 +124,7 @@ HOMES = {
     }),
     "relay_run": (RUN, {"the epoch of a run": EPOCHS}),
     "relay_scenario": (SCRIPT, {"which lines are taken": WORLD, "which calls failed": WORLD, "exit statuses": WORLD}),
+    "relay_serve": (SERVE, {"putting the writes": ANSWERS, "a producer as what": OPERATIONS, "a connection:": (SERVE, REQUESTS)}),
     "relay_stub": (STUB, {}),
     "relay_target": ((EPOCHS, STUB), {"a document as a command line": EPOCHS}),
     "relay_words": ((SCRIPT, RUN), {
@@ -137,6 +150,10 @@ OUTSIDE = {
     RUN: ("run_cases.py", "option_cases.py", "outage_cases.py", "input_cases.py", "report_cases.py", "progress_cases.py", "log_cases.py"),
     PICK: ("pick_cases.py",),
     EPOCHS: ("epoch_cases.py",),
+    SERVE: ("serve_cases.py", "serve_hostile_cases.py"),
+    REQUESTS: ("serve_cases.py", "serve_hostile_cases.py"),
+    OPERATIONS: ("serve_cases.py",),
+    ANSWERS: ("serve_cases.py", "serve_client_cases.py"),
     STUB: ("stub_cases.py", "client_cases.py", "epoch_cases.py"),
     HTTP: ("http_fixtures.py", "proxy_cases.py", "client_cases.py"),
 }

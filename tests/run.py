@@ -22,6 +22,9 @@ import reply_cases
 import report_cases
 import restart_cases
 import run_cases
+import serve_cases
+import serve_client_cases
+import serve_hostile_cases
 import several_cases
 import skip_cases
 import socket_cases
@@ -35,7 +38,7 @@ from program import RESULTS, check, run
 def command_line():
     version = run(["--version"])
     check("the version", (version.stdout, version.stderr, version.returncode) == (b"relay 0.1.0\n", b"", 0), version)
-    for args in (["--help"], ["help"], ["lines", "--help"], ["help", "lines"], ["apply", "--help"], ["help", "apply"], ["run", "--help"], ["help", "run"], ["pick", "--help"], ["help", "pick"], ["stub", "--help"], ["help", "stub"], ["world", "--help"], ["help", "world"]):
+    for args in (["--help"], ["help"], ["lines", "--help"], ["help", "lines"], ["apply", "--help"], ["help", "apply"], ["run", "--help"], ["help", "run"], ["pick", "--help"], ["help", "pick"], ["stub", "--help"], ["help", "stub"], ["world", "--help"], ["help", "world"], ["serve", "--help"], ["help", "serve"]):
         done = run(args)
         check("help: %s" % args, done.returncode == 0 and b"Usage: relay" in done.stdout and done.stderr == b"", done)
     kinds = run(["help", "lines"]).stdout
@@ -73,7 +76,8 @@ def command_line():
 
 # The suites by name, in the order in which they run.
 SUITES = {
-    "lines": lines_cases.GROUPS, "apply": apply_cases.GROUPS, "stub": stub_cases.GROUPS, "client": client_cases.GROUPS, "run": run_cases.GROUPS,
+    "lines": lines_cases.GROUPS, "apply": apply_cases.GROUPS, "stub": stub_cases.GROUPS, "client": client_cases.GROUPS, "run": run_cases.GROUPS, "serve": serve_cases.GROUPS,
+    "serve_hostile": serve_hostile_cases.GROUPS, "serve_clients": serve_client_cases.GROUPS,
     "pick": pick_cases.GROUPS, "proxy": proxy_cases.GROUPS, "reason": reason_cases.GROUPS, "option": option_cases.GROUPS, "several": several_cases.GROUPS, "skip": skip_cases.GROUPS,
     "input": input_cases.GROUPS, "outage": outage_cases.GROUPS, "socket": socket_cases.GROUPS, "pause": pause_cases.GROUPS, "report": report_cases.GROUPS, "stop": stop_cases.GROUPS,
     "progress": progress_cases.GROUPS, "log": log_cases.GROUPS, "reply": reply_cases.GROUPS, "too_large": too_large_cases.GROUPS, "restart": restart_cases.GROUPS,

@@ -23,7 +23,7 @@ BUILD_SECONDS, TEST_SECONDS = 900, 300
 # Freed memory is used again at once, since one case compares how much memory two runs take, and a run may take longer.
 CHECKED = {**os.environ, "ASAN_OPTIONS": "quarantine_size_mb=0:thread_local_quarantine_size_kb=0", "SECONDS_FOR_A_RUN": "300", "FEWER_CASES": "1"}
 # The end-to-end suites in which time does not matter, the longest first. They run one after another, beside the test crates.
-TIMELESS = (("pick",), ("scripts",), ("lines", "apply", "command_line"), ("world",))
+TIMELESS = (("pick",), ("serve_clients",), ("scripts",), ("lines", "apply", "command_line"), ("world",))
 # The others run once the crates have ended, these sets of them and the rest beside each other. Each takes about as long.
 TIMED = (("stop", "reply"), ("run", "outage", "several"), ("epoch", "option", "progress"))
 # The test crates that take longest, the longest first. The others follow, those with the most crates below them first.

@@ -12,6 +12,7 @@
 
 mod command;
 mod noted;
+mod options;
 mod refusals;
 mod report;
 mod stand_in;

@@ -1,17 +1,19 @@
 //! The refusals that a command line asks for.
+use crate::options::TextOption;
 use crate::report::out_of_memory;
 use clap::ArgMatches;
 use relay_commands::refuse_list::{ListFault, refuse_list};
 use relay_index::Script;
 use relay_words::Exit;
 
-/// The script of the option `--refuse`. If its value is not a valid list, prints a message and
+/// The script of the option for refusals. If its value is not a valid list, prints a message and
 /// returns the exit status.
 pub fn script_of<R: Eprint + AllocGlobal>(
     rt: &R,
     matches: &ArgMatches<'_>,
+    option: &TextOption,
 ) -> Result<Script, Exit> {
-    let Some(list) = matches.get_str("refuse") else {
+    let Some(list) = option.get(matches) else {
         return Ok(Script::new(rt.alloc()));
     };
     match refuse_list(rt.alloc(), list) {

@@ -3,8 +3,9 @@ ghost use Rattle.std.specs.Prelude.{None};
 ghost use Rattle.relay_index.specs.States.{IsHighest};
 
 use crate::noted::{Reason, open_noted};
+use crate::options::{FlagOption, TextOption};
 use crate::report::{failed, out_of_memory, said};
-use clap::{Arg, ArgAction, ArgMatches};
+use clap::ArgMatches;
 use relay_action::StdStream;
 use relay_commands::apply::ApplyFault;
 use relay_commands::body::read_body;
@@ -12,15 +13,18 @@ use relay_index::{Index, Script};
 use relay_words::Exit;
 use std::alloc::{AllocError, Global};
 
-/// The option `--reasons`.
-pub fn reasons<'a>(alloc: Global) -> Arg<'a> {
-    Arg::new(alloc, "reasons")
-        .long("reasons")
-        .action(ArgAction::SetTrue)
-        .help(
-            "State the stored version in the reason of each version conflict, in the words of OpenSearch",
-        )
-}
+/// Whether the index states the versions of conflicts.
+pub const REASONS: FlagOption = FlagOption {
+    name: "reasons",
+    help: "State the stored version in the reason of each version conflict, in the words of OpenSearch",
+};
+
+/// The request that the index serves first.
+pub const WRITES: TextOption = TextOption {
+    name: "writes",
+    value: "FILE",
+    help: "A bulk request, as `relay apply` reads it, that the index serves first [default: none]",
+};
 
 /// An index to which nothing was written. It states the versions of conflicts if `--reasons` is
 /// given.
@@ -28,21 +32,10 @@ pub fn index_of(alloc: Global, matches: &ArgMatches<'_>) -> Index
     ensures { IsHighest result None }
 {
     let mut index = Index::new(alloc);
-    if matches.get_flag("reasons") {
+    if REASONS.is_given(matches) {
         index.state_versions();
     }
     index
-}
-
-/// The option `--writes`.
-pub fn writes<'a>(alloc: Global) -> Arg<'a> {
-    Arg::new(alloc, "writes")
-        .long("writes")
-        .value_name("FILE")
-        .action(ArgAction::Set)
-        .help(
-            "A bulk request, as `relay apply` reads it, that the index serves first [default: none]",
-        )
 }
 
 /// The index that a command line asks for, after it has served the request of the file of
@@ -54,7 +47,7 @@ pub fn served_index<R: Eprint + AllocGlobal>(
     matches: &ArgMatches<'_>,
 ) -> Result<Index, Exit> {
     let mut index = index_of(rt.alloc(), matches);
-    let Some(path) = matches.get_str("writes") else {
+    let Some(path) = WRITES.get(matches) else {
         return Ok(index);
     };
     let body = body_of(rt, host, path)?;

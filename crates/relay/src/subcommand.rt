@@ -3,6 +3,7 @@ pub mod apply;
 pub mod lines;
 pub mod pick;
 pub mod run;
+pub mod serve;
 pub mod stub;
 pub mod world;
 
@@ -25,6 +26,7 @@ pub fn command_of<'a>(subcommand: Subcommand, alloc: Global) -> Result<Command<'
         Subcommand::Pick => pick::command(alloc, name),
         Subcommand::Stub => stub::command(alloc, name),
         Subcommand::World => world::command(alloc, name),
+        Subcommand::Serve => serve::command(alloc, name),
     }
 }
 
@@ -45,5 +47,6 @@ where
         Subcommand::Pick => pick::execute(rt, host, matches),
         Subcommand::Stub => stub::execute(rt, matches),
         Subcommand::World => world::execute(rt, host, matches),
+        Subcommand::Serve => serve::execute(rt, host, matches),
     }
 }

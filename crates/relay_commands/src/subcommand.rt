@@ -17,17 +17,20 @@ pub enum Subcommand {
     Stub,
     /// `relay world`.
     World,
+    /// `relay serve`.
+    Serve,
 }
 
 impl Subcommand {
     /// All of them, in the order of the help.
-    pub const ALL: [Subcommand; 6] = [
+    pub const ALL: [Subcommand; 7] = [
         Subcommand::Lines,
         Subcommand::Apply,
         Subcommand::Run,
         Subcommand::Pick,
         Subcommand::Stub,
         Subcommand::World,
+        Subcommand::Serve,
     ];
 
     /// The name of the subcommand on the command line.
@@ -41,6 +44,7 @@ impl Subcommand {
             Subcommand::Pick => "pick",
             Subcommand::Stub => "stub",
             Subcommand::World => "world",
+            Subcommand::Serve => "serve",
         }
     }
 
@@ -55,6 +59,7 @@ impl Subcommand {
             "pick" => Some(Subcommand::Pick),
             "stub" => Some(Subcommand::Stub),
             "world" => Some(Subcommand::World),
+            "serve" => Some(Subcommand::Serve),
             _ => None,
         }
     }

@@ -112,14 +112,16 @@ fn runner_text(rt: &HostRuntime, alloc: Global, to: &str) -> Result<String, Allo
     value.to_string(alloc)
 }
 
-// An epoch from the counter document.
-fn lease(
+/// An epoch from the counter document at this address: connecting may take `timeout` seconds, and
+/// so may a whole message; what may pass is tried again for `patience` seconds.
+pub fn lease(
     rt: HostRuntime,
     alloc: Global,
     counter: &DocKey,
-    options: &RunOptions,
+    to: &str,
+    timeout: u32,
+    patience: u32,
 ) -> Result<u32, EpochFault> {
-    let to = options.to.as_str();
     let Ok(target) = document_target(alloc, counter) else {
         return Err(EpochFault::Memory);
     };
@@ -129,9 +131,9 @@ fn lease(
     let Ok(address) = String::from_str(alloc, to) else {
         return Err(EpochFault::Memory);
     };
-    let dial = TcpDial::new(rt, address).with_timeout(options.timeout);
-    let mut dial = TimedDial::new(dial, rt, options.timeout);
-    let mut patience = Seconds::new(rt, options.patience);
+    let dial = TcpDial::new(rt, address).with_timeout(timeout);
+    let mut dial = TimedDial::new(dial, rt, timeout);
+    let mut patience = Seconds::new(rt, patience);
     take_epoch::<TimedStream<TcpStream, HostRuntime>, _, _>(
         alloc,
         &mut dial,
@@ -157,7 +159,14 @@ pub(crate) fn config_of(
     let Some(counter) = &options.epoch_from else {
         return Ok(options.config);
     };
-    let epoch = lease(rt, alloc, counter, options)?;
+    let epoch = lease(
+        rt,
+        alloc,
+        counter,
+        options.to.as_str(),
+        options.timeout,
+        options.patience,
+    )?;
     Ok(RelayConfig {
         epoch,
         ..options.config

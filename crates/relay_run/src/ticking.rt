@@ -11,7 +11,7 @@ use std::time::{Clock, Duration};
 
 /// Sends a tick to each lane every 100 ms, until every producer's thread has dropped its sender. It
 /// waits for no lane.
-pub(crate) fn tick_until_ended<R: Wait + Clock>(
+pub fn tick_until_ended<R: Wait + Clock>(
     rt: &R,
     ended: &Receiver<(), Global>,
     control: &mut Control,

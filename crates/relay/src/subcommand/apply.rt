@@ -1,7 +1,8 @@
 //! `relay apply`.
+use crate::options::TextOption;
 use crate::refusals::script_of;
-use crate::stand_in::{index_of, reasons};
-use clap::{Arg, ArgAction, ArgMatches, Command};
+use crate::stand_in::{REASONS, index_of};
+use clap::{ArgMatches, Command};
 use relay_action::StdStream;
 use relay_commands::apply::{ApplyFault, apply};
 use relay_commands::exit::exit_of_apply;
@@ -22,26 +23,24 @@ The index applies a write if its version is above the stored version of the docu
 version of a deleted document. Nothing is written before the whole request has been served. The exit
 status is 2 if the body is too long, 3 if a read or write fails, and 4 if memory runs out.";
 
-const REFUSE_HELP: &str =
-    "Items that the index refuses, such as 2:429,5:400: positions from 1, and statuses from 400 to 599 except 404 and 409 [default: none]";
+const REFUSE: TextOption = TextOption {
+    name: "refuse",
+    value: "LIST",
+    help: "Items that the index refuses, such as 2:429,5:400: positions from 1, and statuses from 400 to 599 except 404 and 409 [default: none]",
+};
 
 /// Its help and its options.
 pub fn command<'a>(alloc: Global, name: &'static str) -> Result<Command<'a>, AllocError> {
-    let refuse = Arg::new(alloc, "refuse")
-        .long("refuse")
-        .value_name("LIST")
-        .action(ArgAction::Set)
-        .help(REFUSE_HELP);
     Command::new(alloc, name)
         .about(ABOUT)
         .long_about(LONG_ABOUT)
-        .arg(refuse)?
-        .arg(reasons(alloc))
+        .arg(REFUSE.arg(alloc))?
+        .arg(REASONS.arg(alloc))
 }
 
 /// Runs it over standard input and output.
 pub fn execute<R: Input + Print + Eprint + AllocGlobal>(rt: &R, matches: &ArgMatches<'_>) -> Exit {
-    let script = match script_of(rt, matches) {
+    let script = match script_of(rt, matches, &REFUSE) {
         Ok(script) => script,
         Err(exit) => return exit,
     };

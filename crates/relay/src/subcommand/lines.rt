@@ -1,7 +1,7 @@
 //! `relay lines`.
+use crate::options::{FlagOption, NumberOption, TextOption};
 use crate::report::{out_of_memory, usage};
-use clap::builder::ValueParser;
-use clap::{Arg, ArgAction, ArgMatches, Command};
+use clap::{ArgMatches, Command};
 use relay_action::{ByteIn, ByteOut, StdStream};
 use relay_commands::exit::exit_of;
 use relay_commands::lines::{LinesFault, lines};
@@ -43,52 +43,45 @@ and for the line of a document: SourceMissing (the input has ended; the line is 
 LineLong, NotJson (not UTF-8), SourceEmpty, SourceLong (over 1048576 bytes), SourceNewline (a carriage
 return inside).";
 
-const INDEX_HELP: &str =
-    "The index of operations that do not name one, 1 to 255 bytes [default: none, so each operation must name its index]";
+const INDEX: TextOption = TextOption {
+    name: "index",
+    value: "NAME",
+    help: "The index of operations that do not name one, 1 to 255 bytes [default: none, so each operation must name its index]",
+};
 
-const FIRST_HELP: &str = "The version of the first operation, from 1 to 9000000000000000000";
+const FIRST: NumberOption = NumberOption {
+    name: "first",
+    least: 1,
+    most: LAST_VERSION,
+    default: "1",
+    help: "The version of the first operation, from 1 to 9000000000000000000",
+};
 
-const CHECK: &str = "check";
-
-const CHECK_HELP: &str =
-    "Write the faults of the input to standard output, and no bulk lines: `line N: KIND` for each invalid operation, and beneath it what it is about, if that has a name; it ends with status 2 if there are any";
+const CHECK: FlagOption = FlagOption {
+    name: "check",
+    help: "Write the faults of the input to standard output, and no bulk lines: `line N: KIND` for each invalid operation, and beneath it what it is about, if that has a name; it ends with status 2 if there are any",
+};
 
 /// Its help and its options.
 pub fn command<'a>(alloc: Global, name: &'static str) -> Result<Command<'a>, AllocError> {
-    let index = Arg::new(alloc, "index")
-        .long("index")
-        .value_name("NAME")
-        .action(ArgAction::Set)
-        .help(INDEX_HELP);
-    let first = Arg::new(alloc, "first")
-        .long("first")
-        .value_name("N")
-        .action(ArgAction::Set)
-        .value_parser(ValueParser::unsigned(1, LAST_VERSION))
-        .default_value("1")
-        .help(FIRST_HELP);
-    let check = Arg::new(alloc, CHECK)
-        .long(CHECK)
-        .action(ArgAction::SetTrue)
-        .help(CHECK_HELP);
     Command::new(alloc, name)
         .about(ABOUT)
         .long_about(LONG_ABOUT)
-        .arg(index)?
-        .arg(first)?
-        .arg(check)
+        .arg(INDEX.arg(alloc))?
+        .arg(FIRST.arg(alloc))?
+        .arg(CHECK.arg(alloc))
 }
 
 /// Runs it over standard input and output.
 pub fn execute<R: Input + Print + Eprint + AllocGlobal>(rt: &R, matches: &ArgMatches<'_>) -> Exit {
-    let first = matches.get_one::<u64>("first").unwrap_or(1);
+    let first = FIRST.get(matches);
     if first > LAST_VERSION {
         return usage(rt, "error: the first version is past the last");
     }
     let mut reader = StdStream::new(rt.reader());
     let mut writer = StdStream::new(io::writer(rt));
-    let index = matches.get_str("index");
-    if matches.get_flag(CHECK) {
+    let index = INDEX.get(matches);
+    if CHECK.is_given(matches) {
         return check_input(rt, &mut reader, &mut writer, index);
     }
     match lines(rt.alloc(), &mut reader, &mut writer, index, first) {

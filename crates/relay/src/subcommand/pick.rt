@@ -1,5 +1,6 @@
 //! `relay pick`.
 use crate::noted::{NotedFile, Reason, open_noted};
+use crate::options::{FlagOption, TextOption};
 use crate::report::{failed, out_of_memory, said};
 use clap::{Arg, ArgAction, ArgMatches, Command};
 use relay_action::StdStream;
@@ -46,24 +47,29 @@ With --all the first fault of a file ends the command.
 The exit status is 3 if a file cannot be opened or a read or write fails, and 4 if memory runs out. If a read
 fails, nothing is written, except with --all.";
 
+const REPORT: TextOption = TextOption {
+    name: "report",
+    value: "REPORT",
+    help: "The report that `relay run --report` wrote",
+};
+
+const INDEX: TextOption = TextOption {
+    name: "index",
+    value: "NAME",
+    help: "The index of operations that do not name one, as in the run",
+};
+
+const ALL: FlagOption = FlagOption {
+    name: "all",
+    help: "Extract superseded operations too, and read each file once",
+};
+
+// The files of the run.
+const FILES: &str = "file";
+
 /// Its help and its options.
 pub fn command<'a>(alloc: Global, name: &'static str) -> Result<Command<'a>, AllocError> {
-    let report = Arg::new(alloc, "report")
-        .long("report")
-        .value_name("REPORT")
-        .action(ArgAction::Set)
-        .required(true)
-        .help("The report that `relay run --report` wrote");
-    let index = Arg::new(alloc, "index")
-        .long("index")
-        .value_name("NAME")
-        .action(ArgAction::Set)
-        .help("The index of operations that do not name one, as in the run");
-    let all = Arg::new(alloc, "all")
-        .long("all")
-        .action(ArgAction::SetTrue)
-        .help("Extract superseded operations too, and read each file once");
-    let files = Arg::new(alloc, "file")
+    let files = Arg::new(alloc, FILES)
         .value_name("FILE")
         .action(ArgAction::Append)
         .num_args(1..=16)
@@ -72,9 +78,9 @@ pub fn command<'a>(alloc: Global, name: &'static str) -> Result<Command<'a>, All
     Command::new(alloc, name)
         .about(ABOUT)
         .long_about(LONG_ABOUT)
-        .arg(report)?
-        .arg(index)?
-        .arg(all)?
+        .arg(REPORT.arg(alloc).required(true))?
+        .arg(INDEX.arg(alloc))?
+        .arg(ALL.arg(alloc))?
         .arg(files)
 }
 
@@ -84,16 +90,16 @@ pub fn execute<R: Print + Eprint + AllocGlobal>(
     host: HostRuntime,
     matches: &ArgMatches<'_>,
 ) -> Exit {
-    let report = matches.get_str("report").unwrap_or("");
+    let report = REPORT.get(matches).unwrap_or("");
     let mut names = Vec::new(rt.alloc());
     let reason = Reason::new();
     let read = match names_of(rt, host, report, &reason, &mut names) {
         Ok(read) => read,
         Err(exit) => return exit,
     };
-    let files = matches.get_strs("file").unwrap_or(&[]);
-    let index = matches.get_str("index");
-    let done = if matches.get_flag("all") {
+    let files = matches.get_strs(FILES).unwrap_or(&[]);
+    let index = INDEX.get(matches);
+    let done = if ALL.is_given(matches) {
         pick_all(rt, host, &names, files, index, report)
     } else {
         pick_current(rt, host, &names, files, index, report)

@@ -1,8 +1,8 @@
 //! `relay run`.
+use crate::options::{DurationOption, FlagOption, NumberOption, TextOption, counter_of};
 use crate::report::{out_of_memory, usage};
-use clap::builder::ValueParser;
 use clap::{Arg, ArgAction, ArgMatches, Command};
-use relay_action::{DocKey, StdStream};
+use relay_action::StdStream;
 use relay_core::config::{
     ATTEMPT_LIMIT, BYTES_LEAST, BYTES_LIMIT, CAPACITY_LIMIT, COUNT_LIMIT, DEAL_LIMIT, EPOCH_LIMIT,
     FLYING_LIMIT, HELD_LIMIT, LANE_LIMIT, LINGER_LIMIT,
@@ -13,8 +13,8 @@ use relay_run::files::run_files;
 use relay_run::options::RunOptions;
 use relay_run::report_file::{NOT_APART, NOT_APART_LEFT_OUT};
 use relay_run::run::{Limits, RelayConfig};
-use relay_target::{AddressFault, read_address, read_name};
-use relay_words::{Exit, duration_of};
+use relay_target::{AddressFault, read_address};
+use relay_words::Exit;
 use std::alloc::{AllocError, Global};
 use std::io;
 use std::sync::Wait;
@@ -128,89 +128,129 @@ applied before the new writes of its document, or not at all. If the old process
 of a document are refused once the new run has written that document, and are applied elsewhere; the order of
 the writes is kept, but its count of operations already applied may be wrong.";
 
-// The option that names the counter document.
-const COUNTER: &str = "epoch-from";
+const TO: TextOption = TextOption {
+    name: "to",
+    value: "ADDR",
+    help: "The address of the index, HOST:PORT, 1 to 255 visible ASCII characters; `http://` before it is dropped",
+};
 
-const COUNTER_HELP: &str =
-    "Take the epoch from the index: write this document, which no other program may write with a version of its own and nobody may delete, and use the version that the index gives it; INDEX ends at the first slash [default: none, so --epoch applies]";
+const INDEX: TextOption = TextOption {
+    name: "index",
+    value: "NAME",
+    help: "The index of operations that do not name one, 1 to 255 bytes [default: none, so each operation must name its index]",
+};
 
-// The option for what is said while a run goes on.
-const LOG: &str = "log";
+// The document that counts the epochs.
+const COUNTER: TextOption = TextOption {
+    name: "epoch-from",
+    value: "INDEX/ID",
+    help: "Take the epoch from the index: write this document, which no other program may write with a version of its own and nobody may delete, and use the version that the index gives it; INDEX ends at the first slash [default: none, so --epoch applies]",
+};
 
-const LOG_HELP: &str =
-    "What to write to standard error while the run goes on: errors (what goes wrong: the index is down, why, and up again; the first refusal of each type; the first 413; conflicts), events (these, and the start and the end of the run) or none";
+// What is said while a run goes on.
+const LOG: TextOption = TextOption {
+    name: "log",
+    value: "WHAT",
+    help: "What to write to standard error while the run goes on: errors (what goes wrong: the index is down, why, and up again; the first refusal of each type; the first 413; conflicts), events (these, and the start and the end of the run) or none",
+};
+
+// Where reports go.
+const REPORT: TextOption = TextOption {
+    name: "report",
+    value: "FILE",
+    help: "Save what could not be settled to this file as NDJSON, one object per line; it is opened before anything is put, has to be new or empty, and is written as they arise",
+};
+
+// Where invalid operations go.
+const SKIP_INVALID: TextOption = TextOption {
+    name: "skip-invalid",
+    value: "FILE",
+    help: "Leave out invalid operations, and write their lines to this file, each after a line that says what is wrong; it has to be new or empty, and the run ends with status 5 if any were left out [default: none, so a file is read up to its first fault]",
+};
+
+// Whether these files may have lines already.
+const APPEND: FlagOption = FlagOption {
+    name: "append",
+    help: "Add to what the files of --report and --skip-invalid have; a line that an earlier run left torn is cut off",
+};
+
+const PROGRESS: FlagOption = FlagOption {
+    name: "progress",
+    help: "Show progress on standard error every second; a terminal gets each line over the one before",
+};
+
+// The files of operations.
+const FILES: &str = "file";
 
 // The maximum number of files.
 const FILE_LIMIT: usize = 16;
 
-// An option whose value is a number from `least` to `most`.
-struct NumberOption {
-    name: &'static str,
-    least: u64,
-    most: u64,
-    default: &'static str,
-    help: &'static str,
-}
+const EPOCH: NumberOption = NumberOption {
+    name: "epoch",
+    least: 0,
+    most: EPOCH_LIMIT as u64,
+    default: "0",
+    help: "The epoch, above those of all earlier runs, from 0 to 4194303",
+};
+
+const LANES: NumberOption = NumberOption {
+    name: "lanes",
+    least: 1,
+    most: LANE_LIMIT as u64,
+    default: "1",
+    help: "Number of lanes, 1 to 8, each with its own connections",
+};
+
+const CAPACITY: NumberOption = NumberOption {
+    name: "capacity",
+    least: 1,
+    most: CAPACITY_LIMIT as u64,
+    default: "256",
+    help: "Maximum number of operations waiting in front of a lane, 1 to 65536; while a lane waits for an answer, the files are read further until that many wait",
+};
+
+const HELD: NumberOption = NumberOption {
+    name: "held",
+    least: 1,
+    most: HELD_LIMIT as u64,
+    default: "4096",
+    help: "Maximum number of operations that a lane holds, sent or still to be sent, 1 to 65536",
+};
+
+const COUNT: NumberOption = NumberOption {
+    name: "count",
+    least: 1,
+    most: COUNT_LIMIT as u64,
+    default: "500",
+    help: "Maximum number of operations in a request, 1 to 10000",
+};
+
+const BYTES: NumberOption = NumberOption {
+    name: "bytes",
+    least: BYTES_LEAST,
+    most: BYTES_LIMIT,
+    default: "1048576",
+    help: "Maximum size of a request's body in bytes, 1024 to 16777216; a single operation may have more",
+};
+
+const ATTEMPTS: NumberOption = NumberOption {
+    name: "attempts",
+    least: 1,
+    most: ATTEMPT_LIMIT as u64,
+    default: "8",
+    help: "Maximum number of requests that carry an operation, not counting those halved after a 413, 1 to 32",
+};
+
+const FLYING: NumberOption = NumberOption {
+    name: "flying",
+    least: 1,
+    most: FLYING_LIMIT as u64,
+    default: "1",
+    help: "Maximum number of requests of a lane in flight, each on its own connection, 1 to 8; more keep a slow index busy, and the order of a document's writes is kept",
+};
 
 // The numeric options, in the order of the help.
-const NUMBERS: &[NumberOption] = &[
-    NumberOption {
-        name: "epoch",
-        least: 0,
-        most: EPOCH_LIMIT as u64,
-        default: "0",
-        help: "The epoch, above those of all earlier runs, from 0 to 4194303",
-    },
-    NumberOption {
-        name: "lanes",
-        least: 1,
-        most: LANE_LIMIT as u64,
-        default: "1",
-        help: "Number of lanes, 1 to 8, each with its own connections",
-    },
-    NumberOption {
-        name: "capacity",
-        least: 1,
-        most: CAPACITY_LIMIT as u64,
-        default: "256",
-        help: "Maximum number of operations waiting in front of a lane, 1 to 65536; while a lane waits for an answer, the files are read further until that many wait",
-    },
-    NumberOption {
-        name: "held",
-        least: 1,
-        most: HELD_LIMIT as u64,
-        default: "4096",
-        help: "Maximum number of operations that a lane holds, sent or still to be sent, 1 to 65536",
-    },
-    NumberOption {
-        name: "count",
-        least: 1,
-        most: COUNT_LIMIT as u64,
-        default: "500",
-        help: "Maximum number of operations in a request, 1 to 10000",
-    },
-    NumberOption {
-        name: "bytes",
-        least: BYTES_LEAST,
-        most: BYTES_LIMIT,
-        default: "1048576",
-        help: "Maximum size of a request's body in bytes, 1024 to 16777216; a single operation may have more",
-    },
-    NumberOption {
-        name: "attempts",
-        least: 1,
-        most: ATTEMPT_LIMIT as u64,
-        default: "8",
-        help: "Maximum number of requests that carry an operation, not counting those halved after a 413, 1 to 32",
-    },
-    NumberOption {
-        name: "flying",
-        least: 1,
-        most: FLYING_LIMIT as u64,
-        default: "1",
-        help: "Maximum number of requests of a lane in flight, each on its own connection, 1 to 8; more keep a slow index busy, and the order of a document's writes is kept",
-    },
-];
+const NUMBERS: &[NumberOption] = &[EPOCH, LANES, CAPACITY, HELD, COUNT, BYTES, ATTEMPTS, FLYING];
 
 // The option for the number of reports after which a run stops.
 const MAX_REPORTS: NumberOption = NumberOption {
@@ -220,16 +260,6 @@ const MAX_REPORTS: NumberOption = NumberOption {
     default: "10000",
     help: "Take no more input once so many operations were reported, finish what was read, and end with status 5; 0 means any number",
 };
-
-// An option whose value is a length of time, at most `most` units of `unit` milliseconds.
-struct DurationOption {
-    name: &'static str,
-    unit: u64,
-    most: u64,
-    default: &'static str,
-    help: &'static str,
-    range: &'static str,
-}
 
 const LINGER: DurationOption = DurationOption {
     name: "linger",
@@ -264,118 +294,35 @@ const WEEK: u64 = 604_800;
 // The options that are lengths of time, in the order of the help.
 const DURATIONS: &[DurationOption] = &[LINGER, TIMEOUT, PATIENCE];
 
-fn number<'a>(alloc: Global, option: &NumberOption) -> Arg<'a> {
-    Arg::new(alloc, option.name)
-        .long(option.name)
-        .value_name("N")
-        .action(ArgAction::Set)
-        .value_parser(ValueParser::unsigned(option.least, option.most))
-        .default_value(option.default)
-        .help(option.help)
-}
-
-fn duration<'a>(alloc: Global, option: &DurationOption) -> Arg<'a> {
-    Arg::new(alloc, option.name)
-        .long(option.name)
-        .value_name("DURATION")
-        .action(ArgAction::Set)
-        .default_value(option.default)
-        .help(option.help)
-}
-
 // Adds these options to the command.
 fn with_numbers<'a>(alloc: Global, command: Command<'a>) -> Result<Command<'a>, AllocError> {
     let mut command = command;
     for option in NUMBERS {
-        command = command.arg(number(alloc, option))?;
+        command = command.arg(option.arg(alloc))?;
     }
     for option in DURATIONS {
-        command = command.arg(duration(alloc, option))?;
+        command = command.arg(option.arg(alloc))?;
     }
     Ok(command)
 }
 
-// Where reports go.
-fn report<'a>(alloc: Global) -> Arg<'a> {
-    Arg::new(alloc, "report")
-        .long("report")
-        .value_name("FILE")
-        .action(ArgAction::Set)
-        .help(
-            "Save what could not be settled to this file as NDJSON, one object per line; it is opened before anything is put, has to be new or empty, and is written as they arise",
-        )
-}
-
-// Where invalid operations go.
-fn skip_invalid<'a>(alloc: Global) -> Arg<'a> {
-    Arg::new(alloc, "skip-invalid")
-        .long("skip-invalid")
-        .value_name("FILE")
-        .action(ArgAction::Set)
-        .help(
-            "Leave out invalid operations, and write their lines to this file, each after a line that says what is wrong; it has to be new or empty, and the run ends with status 5 if any were left out [default: none, so a file is read up to its first fault]",
-        )
-}
-
-// Whether these files may have lines already.
-fn append<'a>(alloc: Global) -> Result<Arg<'a>, AllocError> {
-    let append = Arg::new(alloc, "append")
-        .long("append")
-        .action(ArgAction::SetTrue)
-        .requires_arg("report")?;
-    Ok(append.help(
-        "Add to what the files of --report and --skip-invalid have; a line that an earlier run left torn is cut off",
-    ))
-}
-
-// What is said while the run goes on.
-fn log<'a>(alloc: Global) -> Arg<'a> {
-    Arg::new(alloc, LOG)
-        .long(LOG)
-        .value_name("WHAT")
-        .action(ArgAction::Set)
-        .default_value("errors")
-        .help(LOG_HELP)
-}
-
-// Whether progress is shown.
-fn progress<'a>(alloc: Global) -> Arg<'a> {
-    Arg::new(alloc, "progress")
-        .long("progress")
-        .action(ArgAction::SetTrue)
-        .help(
-            "Show progress on standard error every second; a terminal gets each line over the one before",
-        )
-}
-
 // The options for what is saved and shown.
 fn with_outputs<'a>(alloc: Global, command: Command<'a>) -> Result<Command<'a>, AllocError> {
-    let command = command.arg(report(alloc))?;
-    let command = command.arg(skip_invalid(alloc))?;
-    let command = command.arg(append(alloc)?)?;
-    let command = command.arg(number(alloc, &MAX_REPORTS))?;
-    let command = command.arg(log(alloc))?;
-    command.arg(progress(alloc))
+    let append = APPEND.arg(alloc).requires_arg(REPORT.name)?;
+    let log = LOG.arg(alloc).default_value("errors");
+    let command = command.arg(REPORT.arg(alloc))?;
+    let command = command.arg(SKIP_INVALID.arg(alloc))?;
+    let command = command.arg(append)?;
+    let command = command.arg(MAX_REPORTS.arg(alloc))?;
+    let command = command.arg(log)?;
+    command.arg(PROGRESS.arg(alloc))
 }
 
 /// Its help and its options.
 pub fn command<'a>(alloc: Global, name: &'static str) -> Result<Command<'a>, AllocError> {
-    let to = Arg::new(alloc, "to")
-        .long("to")
-        .value_name("ADDR")
-        .action(ArgAction::Set)
-        .required(true)
-        .help(
-            "The address of the index, HOST:PORT, 1 to 255 visible ASCII characters; `http://` before it is dropped",
-        );
-    let index = Arg::new(alloc, "index")
-        .long("index")
-        .value_name("NAME")
-        .action(ArgAction::Set)
-        .help(
-            "The index of operations that do not name one, 1 to 255 bytes [default: none, so each operation must name its index]",
-        );
-    let files = Arg::new(alloc, "file")
+    let to = TO.arg(alloc).required(true);
+    let counter = COUNTER.arg(alloc).conflicts_with(EPOCH.name)?;
+    let files = Arg::new(alloc, FILES)
         .value_name("FILE")
         .action(ArgAction::Append)
         .num_args(1..=FILE_LIMIT)
@@ -383,45 +330,13 @@ pub fn command<'a>(alloc: Global, name: &'static str) -> Result<Command<'a>, All
         .help(
             "Files of operations, 1 to 16, each read by its own producer; `-`, at most once, is standard input",
         );
-    let counter = Arg::new(alloc, COUNTER)
-        .long(COUNTER)
-        .value_name("INDEX/ID")
-        .action(ArgAction::Set)
-        .conflicts_with("epoch")?
-        .help(COUNTER_HELP);
     let command = Command::new(alloc, name)
         .about(ABOUT)
         .long_about(LONG_ABOUT)
         .arg(to)?
-        .arg(index)?
+        .arg(INDEX.arg(alloc))?
         .arg(counter)?;
     with_outputs(alloc, with_numbers(alloc, command)?)?.arg(files)
-}
-
-// The value of a numeric option, which has a default and a range.
-fn number_of(matches: &ArgMatches<'_>, name: &str) -> u32 {
-    matches.get_one::<u32>(name).unwrap_or(0)
-}
-
-// The value of an option that is a length of time, in its units. If it is not one, or too long,
-// prints so, and returns the exit status.
-fn duration_in<R: Eprint>(
-    rt: &R,
-    matches: &ArgMatches<'_>,
-    option: &DurationOption,
-) -> Result<u32, Exit> {
-    let word = matches.get_str(option.name).unwrap_or(option.default);
-    let value = duration_of(word, option.unit.max(1)).filter(|value| *value <= option.most);
-    match value.and_then(|value| u32::try_from(value).ok()) {
-        Some(value) => Ok(value),
-        None => {
-            let (name, range) = (option.name, option.range);
-            let _ = eprintln!(rt;
-                "error: invalid value '{word}' for '--{name} <DURATION>': not a number of ms, s, m or h from {range}"
-            );
-            Err(Exit::Usage)
-        }
-    }
 }
 
 // The options that are lengths of time, each in its units.
@@ -434,33 +349,10 @@ struct Durations {
 
 fn durations_of<R: Eprint>(rt: &R, matches: &ArgMatches<'_>) -> Result<Durations, Exit> {
     Ok(Durations {
-        linger: duration_in(rt, matches, &LINGER)?,
-        timeout: duration_in(rt, matches, &TIMEOUT)?,
-        patience: duration_in(rt, matches, &PATIENCE)?,
+        linger: LINGER.get(rt, matches)?,
+        timeout: TIMEOUT.get(rt, matches)?,
+        patience: PATIENCE.get(rt, matches)?,
     })
-}
-
-// The value of a text option, if it was given.
-fn own_text(
-    alloc: Global,
-    matches: &ArgMatches<'_>,
-    name: &str,
-) -> Result<Option<String>, AllocError> {
-    match matches.get_str(name) {
-        Some(text) => Ok(Some(String::from_str(alloc, text)?)),
-        None => Ok(None),
-    }
-}
-
-// The counter document, if one was named. `Some(None)`: the name is not one of a document.
-fn counter_of(
-    alloc: Global,
-    matches: &ArgMatches<'_>,
-) -> Result<Option<Option<DocKey>>, AllocError> {
-    match matches.get_str(COUNTER) {
-        Some(name) => Ok(Some(read_name(alloc, name)?)),
-        None => Ok(None),
-    }
 }
 
 // The options as they were given, without the counter document.
@@ -471,25 +363,25 @@ fn options_of(
     durations: &Durations,
 ) -> Result<RunOptions, AllocError> {
     let mut files = Vec::new(alloc);
-    for file in matches.get_strs("file").unwrap_or(&[]) {
+    for file in matches.get_strs(FILES).unwrap_or(&[]) {
         files.push(String::from_str(alloc, file)?)?;
     }
-    let index = own_text(alloc, matches, "index")?;
-    let report = own_text(alloc, matches, "report")?;
-    let skip_invalid = own_text(alloc, matches, "skip-invalid")?;
+    let index = INDEX.own(alloc, matches)?;
+    let report = REPORT.own(alloc, matches)?;
+    let skip_invalid = SKIP_INVALID.own(alloc, matches)?;
     let config = RelayConfig {
-        lanes: number_of(matches, "lanes"),
+        lanes: LANES.get_u32(matches),
         producers: u32::try_from(files.len()).unwrap_or(u32::MAX),
-        capacity: number_of(matches, "capacity"),
-        max_held: number_of(matches, "held"),
+        capacity: CAPACITY.get_u32(matches),
+        max_held: HELD.get_u32(matches),
         limits: Limits {
-            count: number_of(matches, "count"),
-            bytes: matches.get_one::<u64>("bytes").unwrap_or(0),
+            count: COUNT.get_u32(matches),
+            bytes: BYTES.get(matches),
             linger: durations.linger,
         },
-        attempts: number_of(matches, "attempts"),
-        in_flight: number_of(matches, "flying"),
-        epoch: number_of(matches, "epoch"),
+        attempts: ATTEMPTS.get_u32(matches),
+        in_flight: FLYING.get_u32(matches),
+        epoch: EPOCH.get_u32(matches),
         deal: DEAL_LIMIT,
     };
     Ok(RunOptions {
@@ -502,16 +394,16 @@ fn options_of(
         patience: durations.patience,
         report,
         skip_invalid,
-        append: matches.get_flag("append"),
-        max_reports: number_of(matches, "max-reports"),
-        progress: matches.get_flag("progress"),
+        append: APPEND.is_given(matches),
+        max_reports: MAX_REPORTS.get_u32(matches),
+        progress: PROGRESS.is_given(matches),
         log: Log::Errors,
     })
 }
 
 // What to say while a run goes on. `None`: the value of the option is none of the three.
 fn log_of(matches: &ArgMatches<'_>) -> Option<Log> {
-    match matches.get_str(LOG) {
+    match LOG.get(matches) {
         Some("none") => Some(Log::None),
         Some("errors") | None => Some(Log::Errors),
         Some("events") => Some(Log::Events),
@@ -519,8 +411,8 @@ fn log_of(matches: &ArgMatches<'_>) -> Option<Log> {
     }
 }
 
-// What is said of an address that is none.
-fn address_fault(fault: AddressFault) -> &'static str {
+/// What is said of an address that is none.
+pub fn address_fault(fault: AddressFault) -> &'static str {
     match fault {
         AddressFault::Secure => {
             "error: --to ADDR: the relay speaks plain HTTP; for https:// run a proxy on this machine, as docs/OPERATING.md shows under \"TLS, credentials and compression\""
@@ -543,14 +435,14 @@ where
         Ok(durations) => durations,
         Err(exit) => return exit,
     };
-    let to = match read_address(matches.get_str("to").unwrap_or("")) {
+    let to = match read_address(TO.get(matches).unwrap_or("")) {
         Ok(address) => address,
         Err(fault) => return usage(rt, address_fault(fault)),
     };
     let Ok(mut options) = options_of(rt.alloc(), matches, to, &durations) else {
         return out_of_memory(rt);
     };
-    match counter_of(rt.alloc(), matches) {
+    match counter_of(rt.alloc(), matches, &COUNTER) {
         Ok(None) => {}
         Ok(Some(Some(counter))) => options.epoch_from = Some(counter),
         Ok(Some(None)) => {

@@ -1,8 +1,9 @@
 //! `relay stub`.
+use crate::options::TextOption;
 use crate::refusals::script_of;
-use crate::stand_in::{index_of, reasons};
+use crate::stand_in::{REASONS, index_of};
 use clap::builder::ValueParser;
-use clap::{Arg, ArgAction, ArgMatches, Command};
+use clap::{ArgMatches, Command};
 use relay_action::StdStream;
 use relay_net::TcpListen;
 use relay_stub::command::{StubFault, exit_of_stub, stub};
@@ -38,64 +39,60 @@ With `--requests 0` it listens, accepts nothing and prints nothing.
 The exit status is 0 on success, 1 if the command line is invalid, 3 if it cannot listen (`listen failed`),
 accept (`accept failed`) or print (`write failed`), and 4, with nothing printed, if memory runs out.";
 
-const LISTEN_HELP: &str =
-    "Where to listen, HOST:PORT: an address or a name of this machine, and a port, such as 127.0.0.1:9200 or [::1]:9200";
+const LISTEN: TextOption = TextOption {
+    name: "listen",
+    value: "ADDR",
+    help: "Where to listen, HOST:PORT: an address or a name of this machine, and a port, such as 127.0.0.1:9200 or [::1]:9200",
+};
 
-const REQUESTS_HELP: &str = "Number of connections to serve, 0 to 18446744073709551615";
+const REQUESTS: TextOption = TextOption {
+    name: "requests",
+    value: "N",
+    help: "Number of connections to serve, 0 to 18446744073709551615",
+};
 
-const REFUSE_HELP: &str =
-    "Items that the index refuses, such as 2:429,5:400: positions from 1, counted over all requests, and statuses from 400 to 599 except 404 and 409 [default: none]";
+const REFUSE: TextOption = TextOption {
+    name: "refuse",
+    value: "LIST",
+    help: "Items that the index refuses, such as 2:429,5:400: positions from 1, counted over all requests, and statuses from 400 to 599 except 404 and 409 [default: none]",
+};
 
-const MAX_HELP: &str =
-    "Maximum size of a request's body in bytes, 0 to 18446744073709551615; a longer one gets 413, and nothing of it is run [default: no limit below 16777216, above which the connection is dropped]";
+const MAX: TextOption = TextOption {
+    name: "max",
+    value: "BYTES",
+    help: "Maximum size of a request's body in bytes, 0 to 18446744073709551615; a longer one gets 413, and nothing of it is run [default: no limit below 16777216, above which the connection is dropped]",
+};
 
 /// Its help and its options.
 pub fn command<'a>(alloc: Global, name: &'static str) -> Result<Command<'a>, AllocError> {
-    let listen = Arg::new(alloc, "listen")
-        .long("listen")
-        .value_name("ADDR")
-        .action(ArgAction::Set)
+    let requests = REQUESTS
+        .arg(alloc)
         .required(true)
-        .help(LISTEN_HELP);
-    let requests = Arg::new(alloc, "requests")
-        .long("requests")
-        .value_name("N")
-        .action(ArgAction::Set)
-        .required(true)
-        .value_parser(ValueParser::unsigned(0, u64::MAX))
-        .help(REQUESTS_HELP);
-    let refuse = Arg::new(alloc, "refuse")
-        .long("refuse")
-        .value_name("LIST")
-        .action(ArgAction::Set)
-        .help(REFUSE_HELP);
-    let max = Arg::new(alloc, "max")
-        .long("max")
-        .value_name("BYTES")
-        .action(ArgAction::Set)
-        .value_parser(ValueParser::unsigned(0, u64::MAX))
-        .help(MAX_HELP);
+        .value_parser(ValueParser::unsigned(0, u64::MAX));
+    let max = MAX
+        .arg(alloc)
+        .value_parser(ValueParser::unsigned(0, u64::MAX));
     Command::new(alloc, name)
         .about(ABOUT)
         .long_about(LONG_ABOUT)
-        .arg(listen)?
+        .arg(LISTEN.arg(alloc).required(true))?
         .arg(requests)?
-        .arg(refuse)?
-        .arg(reasons(alloc))?
+        .arg(REFUSE.arg(alloc))?
+        .arg(REASONS.arg(alloc))?
         .arg(max)
 }
 
 /// Runs it over sockets and standard output.
 pub fn execute<R: Print + Eprint + Net + AllocGlobal>(rt: &R, matches: &ArgMatches<'_>) -> Exit {
-    let mut script = match script_of(rt, matches) {
+    let mut script = match script_of(rt, matches, &REFUSE) {
         Ok(script) => script,
         Err(exit) => return exit,
     };
-    if let Some(max) = matches.get_one::<u64>("max") {
+    if let Some(max) = matches.get_one::<u64>(MAX.name) {
         script.too_large(max);
     }
-    let address = matches.get_str("listen").unwrap_or("");
-    let requests = matches.get_one::<u64>("requests").unwrap_or(0);
+    let address = LISTEN.get(matches).unwrap_or("");
+    let requests = matches.get_one::<u64>(REQUESTS.name).unwrap_or(0);
     let Ok(mut listener) = TcpListen::bind(rt, address) else {
         let _ = rt.eprintln("listen failed");
         return Exit::Device;

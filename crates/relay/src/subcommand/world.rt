@@ -1,5 +1,5 @@
 //! `relay world`.
-use crate::stand_in::{reasons, served_index, writes};
+use crate::stand_in::{REASONS, WRITES, served_index};
 use clap::{ArgMatches, Command};
 use relay_action::StdStream;
 use relay_scenario::exit::exit_of_script;
@@ -81,8 +81,8 @@ pub fn command<'a>(alloc: Global, name: &'static str) -> Result<Command<'a>, All
     Command::new(alloc, name)
         .about(ABOUT)
         .long_about(LONG_ABOUT)
-        .arg(reasons(alloc))?
-        .arg(writes(alloc))
+        .arg(REASONS.arg(alloc))?
+        .arg(WRITES.arg(alloc))
 }
 
 /// Runs it over standard input and output.

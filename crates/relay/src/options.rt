@@ -1,0 +1,147 @@
+//! Options that several subcommands have.
+use clap::builder::ValueParser;
+use clap::{Arg, ArgAction, ArgMatches};
+use relay_action::DocKey;
+use relay_target::read_name;
+use relay_words::{Exit, duration_of};
+use std::alloc::{AllocError, Global};
+
+/// An option whose value is a text.
+#[derive(Clone, Copy)]
+pub struct TextOption {
+    pub name: &'static str,
+    /// What its value is called in the help.
+    pub value: &'static str,
+    pub help: &'static str,
+}
+
+/// An option without a value.
+#[derive(Clone, Copy)]
+pub struct FlagOption {
+    pub name: &'static str,
+    pub help: &'static str,
+}
+
+/// An option whose value is a number from `least` to `most`.
+#[derive(Clone, Copy)]
+pub struct NumberOption {
+    pub name: &'static str,
+    pub least: u64,
+    pub most: u64,
+    pub default: &'static str,
+    pub help: &'static str,
+}
+
+/// An option whose value is a length of time, at most `most` units of `unit` milliseconds.
+#[derive(Clone, Copy)]
+pub struct DurationOption {
+    pub name: &'static str,
+    pub unit: u64,
+    pub most: u64,
+    pub default: &'static str,
+    pub help: &'static str,
+    pub range: &'static str,
+}
+
+impl TextOption {
+    pub fn arg<'a>(&self, alloc: Global) -> Arg<'a> {
+        Arg::new(alloc, self.name)
+            .long(self.name)
+            .value_name(self.value)
+            .action(ArgAction::Set)
+            .help(self.help)
+    }
+
+    /// The value, if it was given or has a default.
+    pub fn get<'m>(&self, matches: &'m ArgMatches<'_>) -> Option<&'m str> {
+        matches.get_str(self.name)
+    }
+
+    /// A copy of the value, if there is one.
+    pub fn own(
+        &self,
+        alloc: Global,
+        matches: &ArgMatches<'_>,
+    ) -> Result<Option<String>, AllocError> {
+        match self.get(matches) {
+            Some(text) => Ok(Some(String::from_str(alloc, text)?)),
+            None => Ok(None),
+        }
+    }
+}
+
+impl FlagOption {
+    pub fn arg<'a>(&self, alloc: Global) -> Arg<'a> {
+        Arg::new(alloc, self.name)
+            .long(self.name)
+            .action(ArgAction::SetTrue)
+            .help(self.help)
+    }
+
+    /// Whether it was given.
+    pub fn is_given(&self, matches: &ArgMatches<'_>) -> bool {
+        matches.get_flag(self.name)
+    }
+}
+
+impl NumberOption {
+    pub fn arg<'a>(&self, alloc: Global) -> Arg<'a> {
+        Arg::new(alloc, self.name)
+            .long(self.name)
+            .value_name("N")
+            .action(ArgAction::Set)
+            .value_parser(ValueParser::unsigned(self.least, self.most))
+            .default_value(self.default)
+            .help(self.help)
+    }
+
+    /// The value, which is there since the option has a default.
+    pub fn get(&self, matches: &ArgMatches<'_>) -> u64 {
+        matches.get_one::<u64>(self.name).unwrap_or(self.least)
+    }
+
+    /// The same for an option whose values have 32 bits.
+    pub fn get_u32(&self, matches: &ArgMatches<'_>) -> u32 {
+        u32::try_from(self.get(matches)).unwrap_or(u32::MAX)
+    }
+}
+
+impl DurationOption {
+    pub fn arg<'a>(&self, alloc: Global) -> Arg<'a> {
+        Arg::new(alloc, self.name)
+            .long(self.name)
+            .value_name("DURATION")
+            .action(ArgAction::Set)
+            .default_value(self.default)
+            .help(self.help)
+    }
+
+    /// The value in its units. If it is not a length of time, or too long, prints so, and returns
+    /// the exit status.
+    pub fn get<R: Eprint>(&self, rt: &R, matches: &ArgMatches<'_>) -> Result<u32, Exit> {
+        let word = matches.get_str(self.name).unwrap_or(self.default);
+        let value = duration_of(word, self.unit.max(1)).filter(|value| *value <= self.most);
+        match value.and_then(|value| u32::try_from(value).ok()) {
+            Some(value) => Ok(value),
+            None => {
+                let (name, range) = (self.name, self.range);
+                let _ = eprintln!(rt;
+                    "error: invalid value '{word}' for '--{name} <DURATION>': not a number of ms, s, m or h from {range}"
+                );
+                Err(Exit::Usage)
+            }
+        }
+    }
+}
+
+/// The counter document, if one was named. `Some(None)`: the name is not one of a document.
+pub fn counter_of(
+    alloc: Global,
+    matches: &ArgMatches<'_>,
+    option: &TextOption,
+) -> Result<Option<Option<DocKey>>, AllocError> {
+    match option.get(matches) {
+        Some(name) => Ok(Some(read_name(alloc, name)?)),
+        None => Ok(None),
+    }
+}

@@ -1,0 +1,343 @@
+//! `relay serve`.
+use crate::options::{DurationOption, NumberOption, TextOption, counter_of};
+use crate::report::{out_of_memory, usage};
+use crate::subcommand::run::address_fault;
+use clap::builder::ValueParser;
+use clap::{ArgMatches, Command};
+use relay_action::{DocKey, StdStream};
+use relay_batch::Limits;
+use relay_core::config::{
+    ATTEMPT_LIMIT, BYTES_LEAST, BYTES_LIMIT, COUNT_LIMIT, DEAL_LIMIT, EPOCH_LIMIT, LANE_LIMIT,
+    PRODUCER_LIMIT,
+};
+use relay_front::Face;
+use relay_lane::RelayConfig;
+use relay_serve::{EpochSource, ServeOptions, serve};
+use relay_target::read_address;
+use relay_words::Exit;
+use std::alloc::{AllocError, Global};
+use std::io;
+use std::sync::Wait;
+use std::thread::Threads;
+use std::time::Clock;
+
+const ABOUT: &str =
+    "Takes the writes of OpenSearch's clients, and writes each to an index once and in order";
+
+const LONG_ABOUT: &str =
+    "Takes the writes of OpenSearch's clients, and writes each to an index once and in order.
+
+It listens at ADDR and answers requests of the bulk API and for single documents as an index does, over HTTP/1.1
+without TLS. Each operation goes to the lane of its document, is assigned a version, and is sent in the lane's
+next bulk request to the index. A request is answered once each of its operations has ended, item by item. An
+item that says that an operation was written means that the index applied it. Nothing is stored on disk: a client that got
+no answer has to submit again.
+
+    relay serve --listen 127.0.0.1:9300 --to 127.0.0.1:9200 --epoch-from relay/epoch
+    curl -XPUT http://127.0.0.1:9300/books/_doc/1 -H 'content-type: application/json' -d '{\"title\":\"Emma\"}'
+
+It takes POST and PUT of /_bulk, /INDEX/_bulk and /INDEX/_doc/_bulk; PUT and POST of /INDEX/_doc/ID, POST of
+/INDEX/_doc, and DELETE of /INDEX/_doc/ID. Operations without an id get one (a UUID of version 7), which the answer
+states. It answers GET and HEAD of /, /_cluster/health, /_cat/health, /_nodes/http and /_license, and HEAD of /INDEX.
+The parameters timeout, refresh, pretty, human, error_trace, filter_path, wait_for_active_shards, master_timeout and
+those that begin with _source are ignored; others are refused for writes. A member of an action line other than
+_index, _id and _type is refused with its operation, and so are updates and creates with an id: 400 in the item,
+while the others go on. A body whose lines cannot be told apart is refused as a whole.
+
+An operation that did not end within --answer-within is answered with 503 and relay_timeout; it may still be
+applied, and what is put for its document later stays behind it. Errors of the index are passed on with their type and reason.
+
+The epoch has to be above those of all earlier runs over the same documents: --epoch-from takes it from the index, as
+`relay run` does; --epoch-file from a file, which is locked while the relay works, and raised and synchronized before
+anything is sent; --epoch gives it. Nobody else may write these documents.
+
+The end of standard input stops it: it takes nothing more, answers what it has, and ends. Standard error gets
+`listening on ADDR, epoch N` at the start, and standard output the counts at the end:
+
+    applied A already B reported C
+
+The exit status is 0 after the end of standard input, 1 if the command line is invalid, 2 if the file of
+--epoch-file holds no epoch, 3 if it cannot listen, has no epoch, or a lane's thread failed, and 4 if memory
+ran out.";
+
+const LISTEN: TextOption = TextOption {
+    name: "listen",
+    value: "ADDR",
+    help: "Where to listen, HOST:PORT: an address or a name of this machine, and a port",
+};
+
+const TO: TextOption = TextOption {
+    name: "to",
+    value: "ADDR",
+    help: "The address of the index, HOST:PORT, 1 to 255 visible ASCII characters; `http://` before it is dropped",
+};
+
+const INDEX: TextOption = TextOption {
+    name: "index",
+    value: "NAME",
+    help: "The index of operations that do not name one, if neither does the path [default: none]",
+};
+
+const FACE: TextOption = TextOption {
+    name: "face",
+    value: "FACE",
+    help: "What it says that it is: `compatible`, which the clients of OpenSearch and of Elasticsearch take, or `opensearch`",
+};
+
+const COUNTER: TextOption = TextOption {
+    name: "epoch-from",
+    value: "INDEX/ID",
+    help: "Take the epoch from the index, as `relay run` does",
+};
+
+const EPOCH_FILE: TextOption = TextOption {
+    name: "epoch-file",
+    value: "PATH",
+    help: "Take the epoch from this file: one more than it holds",
+};
+
+const EPOCH: TextOption = TextOption {
+    name: "epoch",
+    value: "N",
+    help: "The epoch, above those of all earlier runs, from 0 to 4194303",
+};
+
+const WORKERS: NumberOption = NumberOption {
+    name: "workers",
+    least: 1,
+    most: PRODUCER_LIMIT as u64,
+    default: "64",
+    help: "Number of requests that are settled at the same time, 1 to 256",
+};
+
+const LANES: NumberOption = NumberOption {
+    name: "lanes",
+    least: 1,
+    most: LANE_LIMIT as u64,
+    default: "4",
+    help: "Number of lanes, 1 to 8, each with its own connection to the index",
+};
+
+const COUNT: NumberOption = NumberOption {
+    name: "count",
+    least: 1,
+    most: COUNT_LIMIT as u64,
+    default: "500",
+    help: "Maximum number of operations in a request to the index, 1 to 10000",
+};
+
+const BYTES: NumberOption = NumberOption {
+    name: "bytes",
+    least: BYTES_LEAST,
+    most: BYTES_LIMIT,
+    default: "1048576",
+    help: "Maximum size of the body of a request to the index in bytes, 1024 to 16777216; a single operation may have more",
+};
+
+const ATTEMPTS: NumberOption = NumberOption {
+    name: "attempts",
+    least: 1,
+    most: ATTEMPT_LIMIT as u64,
+    default: "7",
+    help: "Maximum number of requests that carry an operation, not counting those halved after a 413, 1 to 32; between 7 of them its lane pauses for 6.3 s in all",
+};
+
+// The numeric options, in the order of the help.
+const NUMBERS: &[NumberOption] = &[WORKERS, LANES, COUNT, BYTES, ATTEMPTS];
+
+const TIMEOUT: DurationOption = DurationOption {
+    name: "timeout",
+    unit: 1_000,
+    most: 604_800,
+    default: "30s",
+    help: "How long connecting to the index may take, and writing a request and reading its whole answer, each, before the request counts as lost and is sent again, rounded up to seconds, up to 168h; 0 means no limit",
+    range: "0 to 168h, or 0 to 604800 seconds",
+};
+
+const PATIENCE: DurationOption = DurationOption {
+    name: "patience",
+    unit: 1_000,
+    most: 604_800,
+    default: "0s",
+    help: "How long to go on asking for the epoch of --epoch-from, once a second, rounded up to seconds, up to 168h",
+    range: "0 to 168h, or 0 to 604800 seconds",
+};
+
+const WITHIN: DurationOption = DurationOption {
+    name: "answer-within",
+    unit: 1,
+    most: 3_600_000,
+    default: "8s",
+    help: "How long a request may take before what has not ended is answered with 503, up to 1h; a bare number counts milliseconds. It should be below the time limits of the clients",
+    range: "0 to 1h, or 0 to 3600000 milliseconds",
+};
+
+const IDLE: DurationOption = DurationOption {
+    name: "idle",
+    unit: 1,
+    most: 604_800_000,
+    default: "75s",
+    help: "How long a client's connection may be idle before it is closed, up to 168h; a bare number counts milliseconds",
+    range: "0 to 168h, or 0 to 604800000 milliseconds",
+};
+
+const DURATIONS: &[DurationOption] = &[WITHIN, TIMEOUT, PATIENCE, IDLE];
+
+// The options for the epoch.
+fn with_epochs<'a>(alloc: Global, command: Command<'a>) -> Result<Command<'a>, AllocError> {
+    let file = EPOCH_FILE.arg(alloc).conflicts_with(COUNTER.name)?;
+    let epoch = EPOCH
+        .arg(alloc)
+        .value_parser(ValueParser::unsigned(0, EPOCH_LIMIT as u64))
+        .conflicts_with(COUNTER.name)?
+        .conflicts_with(EPOCH_FILE.name)?;
+    command.arg(COUNTER.arg(alloc))?.arg(file)?.arg(epoch)
+}
+
+/// Its help and its options.
+pub fn command<'a>(alloc: Global, name: &'static str) -> Result<Command<'a>, AllocError> {
+    let face = FACE.arg(alloc).default_value("compatible");
+    let mut command = Command::new(alloc, name)
+        .about(ABOUT)
+        .long_about(LONG_ABOUT)
+        .arg(LISTEN.arg(alloc).required(true))?
+        .arg(TO.arg(alloc).required(true))?
+        .arg(INDEX.arg(alloc))?
+        .arg(face)?;
+    command = with_epochs(alloc, command)?;
+    for option in NUMBERS {
+        command = command.arg(option.arg(alloc))?;
+    }
+    for option in DURATIONS {
+        command = command.arg(option.arg(alloc))?;
+    }
+    Ok(command)
+}
+
+// The options that are lengths of time, each in its units.
+#[derive(Clone, Copy)]
+struct Durations {
+    timeout: u32,
+    patience: u32,
+    within: u32,
+    idle: u32,
+}
+
+fn durations_of<R: Eprint>(rt: &R, matches: &ArgMatches<'_>) -> Result<Durations, Exit> {
+    Ok(Durations {
+        timeout: TIMEOUT.get(rt, matches)?,
+        patience: PATIENCE.get(rt, matches)?,
+        within: WITHIN.get(rt, matches)?,
+        idle: IDLE.get(rt, matches)?,
+    })
+}
+
+const NO_EPOCH: &str =
+    "error: one of --epoch-from INDEX/ID, --epoch-file PATH and --epoch N is needed";
+
+const NO_COUNTER: &str =
+    "error: --epoch-from INDEX/ID has to name an index, 1 to 255 bytes, and after a slash an id, 1 to 512 bytes";
+
+const NO_FACE: &str = "error: --face FACE has to be `compatible` or `opensearch`";
+
+fn counter<R: Eprint>(rt: &R, counter: Option<DocKey>) -> Result<EpochSource, Exit> {
+    match counter {
+        Some(counter) => Ok(EpochSource::Counter(counter)),
+        None => Err(usage(rt, NO_COUNTER)),
+    }
+}
+
+// Where the epoch comes from.
+fn epoch_of<R: Eprint + AllocGlobal>(
+    rt: &R,
+    matches: &ArgMatches<'_>,
+) -> Result<EpochSource, Exit> {
+    match counter_of(rt.alloc(), matches, &COUNTER) {
+        Ok(Some(named)) => return counter(rt, named),
+        Ok(None) => {}
+        Err(_) => return Err(out_of_memory(rt)),
+    }
+    match EPOCH_FILE.own(rt.alloc(), matches) {
+        Ok(Some(path)) => return Ok(EpochSource::File(path)),
+        Ok(None) => {}
+        Err(_) => return Err(out_of_memory(rt)),
+    }
+    match matches.get_one::<u32>(EPOCH.name) {
+        Some(epoch) => Ok(EpochSource::Given(epoch)),
+        None => Err(usage(rt, NO_EPOCH)),
+    }
+}
+
+fn config_of(matches: &ArgMatches<'_>) -> RelayConfig {
+    RelayConfig {
+        lanes: LANES.get_u32(matches),
+        producers: WORKERS.get_u32(matches),
+        capacity: 1,
+        max_held: 1,
+        limits: Limits {
+            count: COUNT.get_u32(matches),
+            bytes: BYTES.get(matches),
+            linger: 0,
+        },
+        attempts: ATTEMPTS.get_u32(matches),
+        in_flight: 1,
+        epoch: 0,
+        deal: DEAL_LIMIT,
+    }
+}
+
+fn options_of(
+    alloc: Global,
+    matches: &ArgMatches<'_>,
+    to: &str,
+    face: Face,
+    epoch: EpochSource,
+    durations: &Durations,
+) -> Result<ServeOptions, AllocError> {
+    Ok(ServeOptions {
+        listen: String::from_str(alloc, LISTEN.get(matches).unwrap_or(""))?,
+        to: String::from_str(alloc, to)?,
+        index: INDEX.own(alloc, matches)?,
+        face,
+        config: config_of(matches),
+        epoch,
+        timeout: durations.timeout,
+        patience: durations.patience,
+        within: u64::from(durations.within),
+        idle: u64::from(durations.idle),
+    })
+}
+
+/// Runs it over sockets, standard input, standard output and standard error.
+pub fn execute<R>(rt: &R, host: HostRuntime, matches: &ArgMatches<'_>) -> Exit
+where
+    R: Print + Eprint + AllocGlobal + Threads + Wait + Clock + Copy + Send + 'static,
+{
+    let durations = match durations_of(rt, matches) {
+        Ok(durations) => durations,
+        Err(exit) => return exit,
+    };
+    let to = match read_address(TO.get(matches).unwrap_or("")) {
+        Ok(address) => address,
+        Err(fault) => return usage(rt, address_fault(fault)),
+    };
+    let Some(face) = Face::named(FACE.get(matches).unwrap_or("")) else {
+        return usage(rt, NO_FACE);
+    };
+    let epoch = match epoch_of(rt, matches) {
+        Ok(epoch) => epoch,
+        Err(exit) => return exit,
+    };
+    let Ok(options) = options_of(rt.alloc(), matches, to, face, epoch, &durations) else {
+        return out_of_memory(rt);
+    };
+    if !options.is_valid() {
+        return usage(
+            rt,
+            "error: --to ADDR has to be 1 to 255 visible ASCII characters",
+        );
+    }
+    let mut out = StdStream::new(io::writer(rt));
+    let mut err = StdStream::new(host.stderr());
+    serve(*rt, host, &options, &mut out, &mut err)
+}

@@ -1,0 +1,11 @@
+pub mod FrontLines
+pub mod Names
+pub mod Plain
+pub mod Splitting
+pub mod Given
+pub mod Sources
+pub mod Asking
+pub mod Reading
+pub mod Keys
+pub mod Decoding
+pub mod Settling

@@ -1,0 +1,12 @@
+pub mod Parts
+pub mod Routes
+pub mod Queries
+pub mod Kinds
+pub mod Said
+pub mod Reasons
+pub mod Texts
+pub mod Bodies
+pub mod Metadata
+pub mod Operations
+pub mod Faces
+pub mod Service

@@ -1,0 +1,13 @@
+use Rattle.std.proofs.Common.{◌≡◌}
+use Rattle.relay_serve.specs.Batches.{KeepsPlaces}
+use Rattle.relay_serve.specs.Settling.{Stays, Hears}
+use Rattle.relay_serve.proofs.settler.Settler.put.Given as goal
+
+abbrev pub invariant-tries : goal.invariant-tries
+invariant-tries g l = record {
+  stays : Stays l.fn.self.producer l.self.producer;
+  keeps : KeepsPlaces l.fn.batch l.batch;
+  hears : Hears l.fn.self.producer l.self.producer l.fn.batch l.batch;
+  key : l.key ≡ l.fn.key;
+  action : l.action ≡ l.fn.action;
+}

@@ -1,0 +1,14 @@
+use Rattle.std.proofs.Common.{◌≡◌, ◌+◌, ◌++◌, List, length, vec_capacity, vec_len}
+use Rattle.std.specs.Vec.Iter.{into_iter_items}
+use Rattle.relay_front.specs.Operations.{Write}
+use Rattle.relay_serve.specs.Settling.{Stays, PutsAll}
+use Rattle.relay_serve.proofs.settler.Settler.put_all.Given as goal
+
+-- the first writes were put, and there is a place for each that is left
+abbrev pub invariant-writes : goal.invariant-writes
+invariant-writes g l = record {
+  stays : Stays l.fn.self.producer l.self.producer;
+  len : vec_len l.batch.items + length (into_iter_items l.key-iterator) ≡ vec_len l.fn.batch.items + vec_len l.fn.writes;
+  room : vec_capacity l.batch.items ≡ vec_capacity l.fn.batch.items;
+  puts : (first : List Write) × (l.fn.writes.items ≡ first ++ into_iter_items l.key-iterator) × PutsAll l.fn.self.producer first l.self.producer l.batch;
+}

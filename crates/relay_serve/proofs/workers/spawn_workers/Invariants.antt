@@ -1,0 +1,8 @@
+use Rattle.std.proofs.Common.{◌≡◌, ◌++◌, map}
+use Rattle.std.specs.Vec.Iter.{into_iter_items}
+use Rattle.relay_serve.specs.Workers.{given_to}
+use Rattle.relay_serve.proofs.workers.spawn_workers.Given as goal
+
+-- the threads were given the first producers, and the others are left
+abbrev pub invariant-producers : goal.invariant-producers
+invariant-producers g l = map given_to l.threads.items ++ into_iter_items l.producer-iterator ≡ l.fn.producers.items

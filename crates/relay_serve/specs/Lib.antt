@@ -1,0 +1,5 @@
+pub mod Heard
+pub mod Settling
+pub mod Batches
+pub mod Configs
+pub mod Workers

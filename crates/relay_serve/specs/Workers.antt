@@ -1,0 +1,23 @@
+-- Producers and their ends of channels, as workers are given them.
+use Rattle.std.specs.Prelude.{◌≡◌, List, [], ◌∷◌}
+use Rattle.std.specs.declared.thread.PromisedHandle.{PromisedHandle}
+use Rattle.relay_producer.specs.States.{ProducerState, ClosedProducerState}
+use Rattle.relay_receipts.specs.Ends.{TakeEnd}
+use Rattle.relay_receipts.specs.Windows.{WindowState}
+use Rattle.relay_telling.specs.declared.ending.Ending.{Ending}
+use Rattle.relay_serve.specs.declared.workers.WorkerPromise.{WorkerPromise}
+
+-- as many producers as ends; the producers have put nothing, and nothing was taken from the ends
+abbrev pub AreUnused : List ProducerState → List (TakeEnd Ending) → Type 0
+AreUnused [] [] = Unit {0}
+AreUnused [] (t ∷ ts) = ⊥
+AreUnused (p ∷ ps) [] = ⊥
+AreUnused (p ∷ ps) (t ∷ ts) = (p.put ≡ 0) × (t.taken ≡ []) × AreUnused ps ts
+
+-- the producer itself
+abbrev pub producer_in : WindowState Ending → ProducerState
+producer_in w = w.producer
+
+-- what a worker's thread was given
+abbrev pub given_to : PromisedHandle ClosedProducerState WorkerPromise → WindowState Ending
+given_to h = h.promise.producer.value

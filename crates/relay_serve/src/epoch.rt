@@ -1,0 +1,116 @@
+//! The epoch of a server.
+use relay_action::DocKey;
+use relay_words::{add_number, number_of};
+use std::alloc::Global;
+use std::fs::{File, OpenOptions, TryLockError};
+use std::io::{Read, Seek, SeekFrom, Write};
+
+/// The last epoch.
+pub const LAST_EPOCH: u32 = 4_194_303;
+
+/// Where a server's epoch comes from.
+#[derive(Drop)]
+pub enum EpochSource {
+    /// The command line.
+    Given(u32),
+    /// A counter document of the index.
+    Counter(DocKey),
+    /// A file, by its path.
+    File(String),
+}
+
+/// Why a file gives no epoch. Nothing was sent.
+#[derive(Clone, Copy, Debug, PartialEq, Eq)]
+pub enum FileFault {
+    /// The file could not be opened, read, written or synchronized.
+    Device,
+    /// Another process has locked it: a server that runs in its epoch.
+    Locked,
+    /// What it holds is no epoch.
+    Form,
+    /// It holds the last epoch.
+    Spent,
+    /// An allocation failed.
+    Memory,
+}
+
+impl FileFault {
+    /// What is said of it.
+    pub fn text(self) -> &'static str {
+        match self {
+            FileFault::Device => "could not be opened, read, written or synchronized",
+            FileFault::Locked => "is locked by another process",
+            FileFault::Form => "holds no number from 0 to 4194303",
+            FileFault::Spent => "holds the last epoch, 4194303",
+            FileFault::Memory => "there is no memory to read it",
+        }
+    }
+}
+
+// The epoch that a text holds. An empty one holds epoch 0: none was used yet.
+fn epoch_in(text: &str) -> Option<u32> {
+    let text = text.trim();
+    if text.is_empty() {
+        return Some(0);
+    }
+    match number_of(text) {
+        Some(epoch) if epoch <= u64::from(LAST_EPOCH) => u32::try_from(epoch).ok(),
+        _ => None,
+    }
+}
+
+// The text of a file, of which at most 64 bytes are read.
+fn read_epoch(file: &mut File) -> Result<u32, FileFault> {
+    let mut bytes = [0u8; 64];
+    let mut length = 0usize;
+    'reads: while length < bytes.len() {
+        match file.read(&mut bytes[length..]) {
+            Ok(0) => break,
+            Ok(count) => length += count,
+            Err(_) => return Err(FileFault::Device),
+        }
+    }
+    let Ok(text) = std::str::from_utf8(&bytes[..length]) else {
+        return Err(FileFault::Form);
+    };
+    epoch_in(text).ok_or(FileFault::Form)
+}
+
+// Writes an epoch over what the file holds: always as many bytes, in one write.
+fn write_epoch(alloc: Global, file: &mut File, epoch: u32) -> Result<(), FileFault> {
+    let mut digits = Vec::new(alloc);
+    add_number(&mut digits, u64::from(epoch)).map_err(|_| FileFault::Memory)?;
+    let mut text = *b"0000000\n";
+    let start = 7usize.saturating_sub(digits.len());
+    for (place, digit) in digits.iter().enumerate() {
+        if let Some(byte) = text.get_mut(start.saturating_add(place)) {
+            *byte = *digit;
+        }
+    }
+    if file.seek(SeekFrom::Start(0)).is_err() || file.write_all(&text).is_err() {
+        return Err(FileFault::Device);
+    }
+    if file.set_len(8).is_err() || file.sync_all().is_err() {
+        return Err(FileFault::Device);
+    }
+    Ok(())
+}
+
+/// Raises the epoch in a file by one and returns it, with the file, which stays locked until it is
+/// dropped. A file that is absent or empty holds epoch 0.
+pub fn next_epoch(host: &HostRuntime, alloc: Global, path: &str) -> Result<(u32, File), FileFault> {
+    let mut options = OpenOptions::new();
+    options.read(true).write(true).create(true);
+    let mut file = options.open(host, path).map_err(|_| FileFault::Device)?;
+    match file.try_lock() {
+        Ok(()) => {}
+        Err(TryLockError::WouldBlock) => return Err(FileFault::Locked),
+        Err(TryLockError::Error(_)) => return Err(FileFault::Device),
+    }
+    let old = read_epoch(&mut file)?;
+    if old >= LAST_EPOCH {
+        return Err(FileFault::Spent);
+    }
+    write_epoch(alloc, &mut file, old + 1)?;
+    Ok((old + 1, file))
+}

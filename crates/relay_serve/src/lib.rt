@@ -1,0 +1,25 @@
+//! The standing relay: a server that answers the requests of OpenSearch's clients once each of
+//! their operations has ended. It is the function behind `relay serve`: lanes of `relay_threads`
+//! that tell producers over the channels of `relay_receipts`, workers that each own a producer and
+//! serve connections of `http_server` by the service of `relay_front`, and a thread that accepts.
+#![tactic(auto)]
+
+mod accepting;
+mod batch;
+pub mod board;
+mod client;
+pub mod epoch;
+pub mod options;
+mod producing;
+pub mod server;
+mod settler;
+mod started;
+mod stopped;
+mod timing;
+mod wiring;
+mod worker;
+mod workers;
+
+pub use epoch::{EpochSource, FileFault};
+pub use options::ServeOptions;
+pub use server::serve;

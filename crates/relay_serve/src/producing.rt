@@ -1,0 +1,73 @@
+//! What a worker's front puts its writes by, and where it gets ids.
+ghost use Rattle.std.specs.Prelude.{◌≡◌};
+ghost use Rattle.relay_run.specs.Identities.{identity_of, identity_of_closed};
+ghost use Rattle.relay_serve.specs.Settling.{Settles};
+
+use crate::settler::Settler;
+use rand_pcg::Pcg64;
+use relay_action::{Action, DocKey, Text};
+use relay_front::{Front, Ids, Settle, Settled};
+use relay_producer::ClosedProducer;
+use std::alloc::{AllocError, Global};
+use std::sync::Wait;
+use std::time::Clock;
+use uuid::{ContextV7, Uuid};
+
+/// A settler in the hands of a thread that may wait.
+#[derive(Drop)]
+pub(crate) struct Producing<'a, R: Wait + Clock> {
+    pub(crate) rt: &'a R,
+    pub(crate) settler: Settler,
+}
+
+impl<'a, R: Wait + Clock> Settle for Producing<'a, R> {
+    ghost settles = { λ old writes ends new.
+        Settles old.settler.producer writes ends new.settler.producer };
+
+    fn settle(&mut self, writes: Vec<(DocKey, Action)>) -> Result<Settled, AllocError> {
+        self.settler.settle(self.rt, writes)
+    }
+
+    fn is_ending(&self) -> bool {
+        self.settler.shared.is_ending()
+    }
+}
+
+impl<'a, R: Wait + Clock> Producing<'a, R> {
+    /// Closes the producer.
+    pub(crate) fn close(self) -> ClosedProducer
+        ensures { identity_of_closed result ≡ identity_of self.entry.settler.producer.producer }
+    {
+        let Producing { rt, settler } = self;
+        settler.close(rt)
+    }
+}
+
+/// What makes ids for a worker's requests.
+#[derive(Drop)]
+pub(crate) struct Making {
+    pub(crate) alloc: Global,
+    pub(crate) ids: ContextV7,
+    pub(crate) dice: Pcg64,
+}
+
+/// What makes ids, in the hands of a thread that has a clock.
+#[derive(Drop)]
+pub(crate) struct MakingIds<'a, R: Clock> {
+    pub(crate) rt: &'a R,
+    pub(crate) making: Making,
+}
+
+impl<'a, R: Clock> Ids for MakingIds<'a, R> {
+    fn next_id(&mut self) -> Result<Text, AllocError> {
+        let alloc = self.making.alloc;
+        let Ok(id) = self.making.ids.now_v7(self.rt, &mut self.making.dice) else {
+            return Err(AllocError);
+        };
+        let mut buffer = Uuid::encode_buffer();
+        Text::new(alloc, id.hyphenated().encode_lower(&mut buffer))
+    }
+}
+
+/// The front of a worker.
+pub(crate) type WorkerFront<'a, R> = Front<'a, Producing<'a, R>, MakingIds<'a, R>>;

@@ -1,0 +1,302 @@
+//! A worker's producer, which settles the writes of requests.
+ghost use Rattle.std.specs.Prelude.{◌≡◌, ℕ, ◌+◌, ◌≤◌, [], ◌∷◌, ◌++◌, IfErr, IfNone, IfOk, IfSome, List, false};
+ghost use Rattle.std.specs.Prelude.{OnErr, length, vec_capacity, vec_len};
+ghost use Rattle.relay_receipts.specs.Windows.{WindowState};
+ghost use Rattle.relay_receipts.specs.declared.notice.Notice.{Notice};
+ghost use Rattle.relay_telling.specs.declared.ending.Ending.{Ending};
+ghost use Rattle.relay_run.specs.Identities.{identity_of, identity_of_closed};
+ghost use Rattle.relay_serve.specs.Batches.{KeepsPlaces};
+ghost use Rattle.relay_serve.specs.Heard.{FitsFrom, IsUnput};
+ghost use Rattle.relay_serve.specs.Settling.{Stays, Settles, Hears, Tries, Becomes, PutsSome};
+
+use crate::batch::{Batch, end_of, finish_ends};
+use crate::board::Shared;
+use crate::timing::{TRIES, Timer, pause, sleep};
+use relay_action::{Action, DocKey};
+use relay_front::{End, Settled};
+use relay_producer::{ClosedProducer, PutFaultKind, Receipt};
+use relay_receipts::{Gone, Notice, WindowFault, WindowFaultKind, WindowedProducer};
+use relay_telling::Ending;
+use std::alloc::{AllocError, Global};
+use std::sync::Wait;
+use std::time::{Clock, Instant};
+
+/// What settles the writes of a worker's requests: its producer, with a window of operations that
+/// may be open.
+#[derive(Drop)]
+pub(crate) struct Settler {
+    pub(crate) alloc: Global,
+    pub(crate) producer: WindowedProducer<Ending>,
+    pub(crate) shared: Shared,
+    /// How long a request may take, in milliseconds.
+    pub(crate) within: u64,
+}
+
+// What became of a write.
+#[derive(Drop)]
+enum Put {
+    Done(Receipt),
+    Late,
+    Gone,
+}
+
+// Notes what a notice says. One that says that its lane tells no more ends the server.
+fn note(shared: &Shared, batch: &mut Batch, notice: Notice<Ending>)
+    ensures keeps { KeepsPlaces batch.old batch.new }
+    ensures noted { (heard : List (Notice Ending)) → (number : ℕ) → FitsFrom heard number batch.old
+        → FitsFrom (heard ++ notice ∷ []) number batch.new }
+{
+    let Notice { lane, told } = notice;
+    match told {
+        Some(ending) => {
+            let (number, end) = end_of(ending);
+            batch.note(number, end);
+        }
+        None => {
+            shared.fail();
+            batch.lose(lane);
+        }
+    }
+}
+
+// The places for the ends of so many writes, and for what is noted of them.
+fn make_room(alloc: Global, count: usize) -> Result<(Vec<End>, Batch), AllocError>
+    ensures ends { IfOk result (λ r. (vec_len r.0 ≡ 0) × (count ≤ vec_capacity r.0) × (r.0.items ≡ [])) }
+    ensures batch { IfOk result (λ r. (vec_len r.1.items ≡ 0) × (count ≤ vec_capacity r.1.items)
+        × (r.1.items.items ≡ [])) }
+{
+    let batch = Batch::new(alloc, count)?;
+    let ends = Vec::with_capacity(alloc, count)?;
+    Ok((ends, batch))
+}
+
+impl Settler {
+    // The notice at the front, if there is one. `Err`: no lane tells any more.
+    fn try_notice<R: Wait>(&mut self, rt: &R) -> Result<Option<Notice<Ending>>, Gone>
+        ensures stays { Stays self.old.producer self.new.producer }
+        ensures same { self.new.producer.producer ≡ self.old.producer.producer }
+        ensures taken { IfOk result (λ o. IfSome o (λ n. self.new.producer.receipts.taken
+            ≡ self.old.producer.receipts.taken ++ n ∷ [])) }
+        ensures none { IfOk result (λ o. IfNone o (self.new.producer ≡ self.old.producer)) }
+        ensures gone { IfErr result (λ _. self.new.producer ≡ self.old.producer) }
+    {
+        let taken = self.producer.try_take(rt);
+        if taken.is_err() {
+            self.shared.fail();
+        }
+        taken
+    }
+
+    // The next notice, unless none comes for a number of tries.
+    fn poll_notice<R: Wait>(&mut self, rt: &R) -> Result<Option<Notice<Ending>>, Gone>
+        ensures stays { Stays self.old.producer self.new.producer }
+        ensures same { self.new.producer.producer ≡ self.old.producer.producer }
+        ensures taken { IfOk result (λ o. IfSome o (λ n. self.new.producer.receipts.taken
+            ≡ self.old.producer.receipts.taken ++ n ∷ [])) }
+        ensures none { IfOk result (λ o. IfNone o (self.new.producer ≡ self.old.producer)) }
+        ensures gone { IfErr result (λ _. self.new.producer ≡ self.old.producer) }
+    {
+        'tries: for turn in 0..TRIES {
+            match self.try_notice(rt) {
+                Ok(None) => pause(turn),
+                taken => return taken,
+            }
+        }
+        Ok(None)
+    }
+
+    // The next notice, unless the time is over or no lane tells any more. It sleeps between tries.
+    fn await_notice<R: Wait + Clock>(&mut self, rt: &R, timer: &Timer) -> Option<Notice<Ending>>
+        ensures stays { Stays self.old.producer self.new.producer }
+        ensures same { self.new.producer.producer ≡ self.old.producer.producer }
+        ensures taken { IfSome result (λ n. self.new.producer.receipts.taken
+            ≡ self.old.producer.receipts.taken ++ n ∷ []) }
+        ensures none { IfNone result (self.new.producer ≡ self.old.producer) }
+    {
+        let began = Instant::now(rt).ok();
+        'tries: for _ in rt.forever() {
+            match self.try_notice(rt) {
+                Ok(None) => {}
+                Ok(notice) => return notice,
+                Err(_) => return None,
+            }
+            if timer.is_over(rt) {
+                return None;
+            }
+            sleep(rt, began);
+        }
+        unreachable!()
+    }
+
+    // The next notice, unless the time is over or no lane tells any more.
+    fn next_notice<R: Wait + Clock>(&mut self, rt: &R, timer: &Timer) -> Option<Notice<Ending>>
+        ensures stays { Stays self.old.producer self.new.producer }
+        ensures same { self.new.producer.producer ≡ self.old.producer.producer }
+        ensures taken { IfSome result (λ n. self.new.producer.receipts.taken
+            ≡ self.old.producer.receipts.taken ++ n ∷ []) }
+        ensures none { IfNone result (self.new.producer ≡ self.old.producer) }
+    {
+        match self.poll_notice(rt) {
+            Ok(None) => self.await_notice(rt, timer),
+            Ok(notice) => notice,
+            Err(_) => None,
+        }
+    }
+
+    // Waits for a notice and notes it. Returns whether there was one.
+    fn hear<R: Wait + Clock>(&mut self, rt: &R, batch: &mut Batch, timer: &Timer) -> bool
+        ensures stays { Stays self.old.producer self.new.producer }
+        ensures keeps { KeepsPlaces batch.old batch.new }
+        ensures hears { Hears self.old.producer self.new.producer batch.old batch.new }
+    {
+        match self.next_notice(rt, timer) {
+            Some(notice) => {
+                note(&self.shared, batch, notice);
+                true
+            }
+            None => false,
+        }
+    }
+
+    // Puts a write, if the window has room.
+    fn try_put<R: Wait>(
+        &mut self,
+        rt: &R,
+        key: DocKey,
+        action: Action,
+    ) -> Result<Receipt, WindowFault>
+        ensures stays { Stays self.old.producer self.new.producer }
+        ensures tries { Tries key action self.old.producer result self.new.producer }
+    {
+        self.producer.put(rt, key, action)
+    }
+
+    // Puts a write, after waiting for room in the window.
+    fn put<R: Wait + Clock>(
+        &mut self,
+        rt: &R,
+        batch: &mut Batch,
+        key: DocKey,
+        action: Action,
+        timer: &Timer,
+    ) -> Put
+        ensures stays { Stays self.old.producer self.new.producer }
+        ensures keeps { KeepsPlaces batch.old batch.new }
+        ensures became { (mid : WindowState Ending) × Hears self.old.producer mid batch.old batch.new
+            × Becomes key action mid result self.new.producer }
+    {
+        let mut key = key;
+        let mut action = action;
+        'tries: for _ in rt.forever() {
+            let fault = match self.try_put(rt, key, action) {
+                Ok(receipt) => return Put::Done(receipt),
+                Err(fault) => fault,
+            };
+            let WindowFault {
+                kind,
+                key: kept,
+                action: left,
+            } = fault;
+            if is_final(kind) {
+                self.shared.fail();
+                return Put::Gone;
+            }
+            if !self.hear(rt, batch, timer) {
+                return Put::Late;
+            }
+            key = kept;
+            action = left;
+        }
+        unreachable!()
+    }
+
+    // Puts the writes, until one is not put. Returns how the others end.
+    fn put_all<R: Wait + Clock>(
+        &mut self,
+        rt: &R,
+        batch: &mut Batch,
+        writes: Vec<(DocKey, Action)>,
+        timer: &Timer,
+    ) -> End
+        requires room { vec_len batch.old.items + vec_len writes ≤ vec_capacity batch.old.items }
+        requires none { batch.old.items.items ≡ [] }
+        ensures stays { Stays self.old.producer self.new.producer }
+        ensures len { vec_len batch.new.items ≤ vec_len batch.old.items + vec_len writes }
+        ensures puts { PutsSome self.old.producer writes.items self.new.producer batch.new }
+    {
+        'writes: for (key, action) in writes {
+            match self.put(rt, batch, key, action, timer) {
+                Put::Done(receipt) => batch.add(receipt.name.number, receipt.lane),
+                Put::Late => return End::Unput,
+                Put::Gone => return End::Gone,
+            }
+        }
+        End::Unput
+    }
+
+    // Waits until each write that was put has ended, or the time is over.
+    fn hear_all<R: Wait + Clock>(&mut self, rt: &R, batch: &mut Batch, timer: &Timer)
+        ensures stays { Stays self.old.producer self.new.producer }
+        ensures keeps { KeepsPlaces batch.old batch.new }
+        ensures hears { Hears self.old.producer self.new.producer batch.old batch.new }
+    {
+        'notices: for _ in rt.forever() {
+            if batch.is_over() || !self.hear(rt, batch, timer) {
+                return;
+            }
+        }
+        unreachable!()
+    }
+
+    /// Puts the writes in their order, waits until each has ended or the time of the request is
+    /// over, and returns how each ended.
+    pub(crate) fn settle<R: Wait + Clock>(
+        &mut self,
+        rt: &R,
+        writes: Vec<(DocKey, Action)>,
+    ) -> Result<Settled, AllocError>
+        ensures ok { IfOk result
+            (λ s. Settles self.old.producer writes.items s.ends.items self.new.producer) }
+        ensures each { IfOk result (λ s. length s.ends.items ≡ length writes.items) }
+        ensures err { OnErr result (self.new ≡ self.old) }
+    {
+        let count = writes.len();
+        let (ends, mut batch) = match make_room(self.alloc, count) {
+            Ok(room) => room,
+            Err(fault) => return Err(fault),
+        };
+        let timer = Timer {
+            start: Instant::now(rt).ok(),
+            within: self.within,
+        };
+        let others = self.put_all(rt, &mut batch, writes, &timer);
+        self.hear_all(rt, &mut batch, &timer);
+        let ends = finish_ends(ends, batch, &others, count);
+        let took = timer.micros(rt) / 1_000;
+        Ok(Settled { ends, took })
+    }
+
+    /// Closes the producer.
+    pub(crate) fn close<R: Wait>(self, rt: &R) -> ClosedProducer
+        ensures { identity_of_closed result ≡ identity_of self.producer.producer }
+    {
+        let Settler {
+            alloc: _,
+            producer,
+            shared: _,
+            within: _,
+        } = self;
+        let (closed, _receipts) = producer.close(rt);
+        closed
+    }
+}
+
+// Whether a write that was refused so can never be put.
+fn is_final(kind: WindowFaultKind) -> bool
+    ensures { result ≡ false → kind ≡ WindowFaultKind.WindowFull }
+{
+    match kind {
+        WindowFaultKind::WindowFull => false,
+        WindowFaultKind::Put(PutFaultKind::LaneGone | PutFaultKind::NumbersSpent) => true,
+    }
+}

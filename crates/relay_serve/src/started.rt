@@ -1,0 +1,88 @@
+//! The lanes and the workers of a server, from their start to their end.
+ghost use Rattle.std.specs.Prelude.{◌≡◌, ◌≤◌, IfOk, IsTrue, map, string_bytes, vec_len};
+ghost use Rattle.relay_http.specs.WrittenRequest.{is_host};
+ghost use Rattle.relay_threads.specs.Relay.{AreNew, new_control};
+ghost use Rattle.relay_serve.specs.Configs.{config_in};
+ghost use Rattle.relay_serve.specs.Workers.{producer_in};
+
+use crate::board::Shared;
+use crate::options::ServeOptions;
+use crate::stopped::Stopped;
+use crate::wiring::{TcpWire, config_of, make_paces, make_wires, window_of};
+use crate::workers::{Connections, pair_up, run_workers};
+use relay_producer::{Control, Producer};
+use relay_receipts::{ReceiptTake, WindowedProducer};
+use relay_telling::{Ending, LaneTells, telling};
+use relay_threads::{Relay, Summary};
+use std::alloc::Global;
+use std::sync::Wait;
+use std::thread::Threads;
+use std::time::Clock;
+
+// The lanes that were started, and the handles of their senders: a producer for each worker, with
+// its receipts, and the control.
+type Started = (
+    Relay<TcpWire, LaneTells>,
+    Vec<WindowedProducer<Ending>>,
+    Control,
+);
+
+// Starts the lanes in this epoch.
+fn start<R>(
+    rt: R,
+    host: &HostRuntime,
+    alloc: Global,
+    options: &ServeOptions,
+    epoch: u32,
+) -> Result<Started, Stopped>
+where
+    R: Threads + Wait + Clock + Copy + Send + 'static,
+    requires host { IsTrue (is_host (string_bytes options.now.to)) }
+    requires lanes { options.now.config.lanes ≤ 8 }
+    ensures config { IfOk result (λ r. r.0.config ≡ config_in epoch options.now.config) }
+    ensures producers { IfOk result (λ r. AreNew r.0.queues epoch 0 (map producer_in r.1.items)) }
+    ensures count { IfOk result (λ r. vec_len r.1 ≡ r.0.config.producers) }
+    ensures control { IfOk result (λ r. r.2 ≡ new_control r.0.queues r.0.config.producers) }
+{
+    let config = config_of(options.config, epoch);
+    let window = window_of(config.producers);
+    let wires = make_wires(*host, alloc, options.to.as_str(), options.timeout, config)?;
+    let paces = make_paces(*host, alloc, config.lanes)?;
+    let (tells, takes) = telling(alloc, config.producers, config.lanes, window)?;
+    let (relay, producers, control) = Relay::start_telling(rt, alloc, config, wires, paces, tells)?;
+    let paired = pair_up(alloc, producers, takes, window)?;
+    Ok((relay, paired, control))
+}
+
+/// Starts the lanes and the workers in this epoch, waits until the workers have ended, and then
+/// until the lanes have.
+pub(crate) fn serve_epoch<R>(
+    rt: R,
+    host: &HostRuntime,
+    alloc: Global,
+    options: &ServeOptions,
+    epoch: u32,
+    shared: &Shared,
+    connections: &Connections,
+) -> Result<Summary<TcpWire>, Stopped>
+where
+    R: Threads + Wait + Clock + Copy + Send + 'static,
+    requires host { IsTrue (is_host (string_bytes options.now.to)) }
+    requires lanes { options.now.config.lanes ≤ 8 }
+{
+    let (relay, producers, control) = start(rt, host, alloc, options, epoch)?;
+    let (closed, control) = run_workers(
+        rt,
+        host,
+        alloc,
+        options,
+        producers,
+        control,
+        shared,
+        connections,
+    )?;
+    match relay.finish(&rt, closed, control) {
+        Ok(summary) => Ok(summary),
+        Err(fault) => Err(Stopped::Finish(fault)),
+    }
+}

@@ -1,0 +1,26 @@
+//! Why a server has not served to its end.
+use relay_threads::{FinishFault, StartFault};
+use std::alloc::AllocError;
+
+/// Why lanes and workers have not served to the end.
+#[derive(Clone, Copy, Debug)]
+pub(crate) enum Stopped {
+    /// The lanes or the workers did not start.
+    Start(StartFault),
+    /// A lane did not finish.
+    Finish(FinishFault),
+    /// The system gave no random numbers.
+    Random,
+}
+
+impl From<AllocError> for Stopped {
+    fn from(_error: AllocError) -> Stopped {
+        Stopped::Start(StartFault::Memory)
+    }
+}
+
+impl From<StartFault> for Stopped {
+    fn from(fault: StartFault) -> Stopped {
+        Stopped::Start(fault)
+    }
+}
