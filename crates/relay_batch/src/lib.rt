@@ -11,8 +11,10 @@ pub mod batch;
 pub mod batcher;
 pub mod item;
 pub mod offer;
+pub mod tally;
 
 pub use batch::Batch;
 pub use batcher::Batcher;
 pub use item::{BatchItem, Limits, Room};
 pub use offer::Offer;
+pub use tally::Tally;

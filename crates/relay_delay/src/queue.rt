@@ -1,6 +1,6 @@
 //! The delay queue.
 ghost use Rattle.std.specs.Prelude.{◌≡◌, ◌+◌, ◌<◌, ◌≤◌, ◌++◌, [], false, length, slice_get};
-ghost use Rattle.std.specs.Prelude.{IfOk, OnOk, OnErr, MatchOption};
+ghost use Rattle.std.specs.Prelude.{OnOk, OnErr, MatchOption};
 ghost use Rattle.std.specs.VecDeque.{deque_capacity};
 ghost use Rattle.relay_delay.specs.Waiting.{insert, without, has_version, due_entries, due_in};
 ghost use Rattle.relay_delay.specs.Waiting.{Rises};
@@ -20,7 +20,8 @@ use std::marker::Model;
 pub struct DelayQueue {
     clock: u64,
     room: usize,
-    /// The first due operations, in ascending order of version, all below those in `ready`.
+    /// The first due operations, in ascending order of version, all below those in `ready`. It has
+    /// room for all that wait.
     front: VecDeque<Entry>,
     /// The other due operations.
     ready: Ready,
@@ -29,7 +30,8 @@ pub struct DelayQueue {
 }
 
 impl Model for DelayQueue {
-    ghost use Rattle.std.specs.Prelude.{◌++◌};
+    ghost use Rattle.std.specs.Prelude.{◌++◌, ◌≤◌};
+    ghost use Rattle.std.specs.VecDeque.{deque_capacity};
     ghost use Rattle.relay_delay.specs.Waiting.{Delays};
     ghost use Rattle.relay_delay.specs.Heaps.{insert_all, IsDelayed};
 
@@ -42,7 +44,10 @@ impl Model for DelayQueue {
           (d.front.items ++ d.ready.entries);
     } };
 
-    ghost invariant = { λ d. IsDelayed d.clock d.room d.front.items d.ready d.later };
+    ghost invariant = { λ d. record {
+      delayed : IsDelayed d.clock d.room d.front.items d.ready d.later;
+      front_room : d.room ≤ deque_capacity d.front;
+    } };
 }
 
 // Moves the last operation in front back to the other due ones.
@@ -52,6 +57,7 @@ fn give_back(front: &mut VecDeque<Entry>, ready: &mut Ready)
     requires room { length front.old.items + length ready.old.entries ≤ ready.old.room }
     ensures kept { front.new.items ++ ready.new.entries ≡ front.old.items ++ ready.old.entries }
     ensures shorter { length front.new.items + 1 ≡ length front.old.items }
+    ensures capacity { deque_capacity front.new ≡ deque_capacity front.old }
     ensures room { ready.old.room ≤ ready.new.room }
 {
     if let Some(last) = front.pop_back() {
@@ -66,6 +72,7 @@ fn add(front: &mut VecDeque<Entry>, ready: &mut Ready, one: Entry)
     requires room { length front.old.items + length ready.old.entries < ready.old.room }
     ensures added { front.new.items ++ ready.new.entries
         ≡ insert one (front.old.items ++ ready.old.entries) }
+    ensures capacity { deque_capacity front.new ≡ deque_capacity front.old }
     ensures room { ready.old.room ≤ ready.new.room }
 {
     'back: while reaches(front, one.version) {
@@ -88,18 +95,18 @@ fn bring(front: &mut VecDeque<Entry>, ready: &mut Ready)
     }
 }
 
-// Moves due operations to the front until it has `count`, or none is left.
-fn bring_all(front: &mut VecDeque<Entry>, ready: &mut Ready, count: usize) -> Result<(), AllocError>
-    requires { count ≤ length front.old.items + length ready.old.entries }
-    ensures ok { OnOk result (count ≤ length front.new.items) }
+// Moves due operations to the front, which has room for them, until it has `count`.
+fn bring_all(front: &mut VecDeque<Entry>, ready: &mut Ready, count: usize)
+    requires enough { count ≤ length front.old.items + length ready.old.entries }
+    requires room { count ≤ deque_capacity front.old }
+    ensures count { count ≤ length front.new.items }
     ensures kept { front.new.items ++ ready.new.entries ≡ front.old.items ++ ready.old.entries }
+    ensures capacity { deque_capacity front.new ≡ deque_capacity front.old }
     ensures room { ready.new.room ≡ ready.old.room }
 {
-    front.reserve(count.saturating_sub(front.len()))?;
     'front: while front.len() < count {
         bring(front, ready);
     }
-    Ok(())
 }
 
 // The operation at a place in front.
@@ -116,6 +123,7 @@ fn come_due(front: &mut VecDeque<Entry>, ready: &mut Ready, later: &mut Later, c
         ≡ insert_all later.old.entries (front.old.items ++ ready.old.entries) }
     ensures due { AllDue clock (front.new.items ++ ready.new.entries) }
     ensures none { NoneDue clock later.new.entries }
+    ensures capacity { deque_capacity front.new ≡ deque_capacity front.old }
     ensures ready_room { ready.old.room ≤ ready.new.room }
     ensures later_room { later.new.room ≡ later.old.room }
 {
@@ -175,7 +183,9 @@ impl DelayQueue {
         }
         self.ready.reserve(count)?;
         self.later.reserve(count)?;
-        self.room = self.ready.room().min(self.later.room());
+        let room = self.ready.room().min(self.later.room());
+        self.front.reserve(room.saturating_sub(self.front.len()))?;
+        self.room = room;
         Ok(())
     }
 
@@ -195,18 +205,16 @@ impl DelayQueue {
 
     /// The due operation at a place, where 0 is the lowest version, or `None` if fewer are due. It
     /// brings all up to that place to the front, so ask for 0, 1, 2, .. in turn: each place then
-    /// costs O(log n) once and O(1) after that. `AllocError`: an allocation failed, and there is a
-    /// due operation at that place.
-    pub fn due_at(&mut self, at: usize) -> Result<Option<Entry>, AllocError>
-        ensures ok { IfOk result (λ e. e ≡ slice_get (due_entries self.old) at) }
-        ensures err { OnErr result (at < length (due_entries self.old)) }
+    /// costs O(log n) once and O(1) after that. It does not allocate.
+    pub fn due_at(&mut self, at: usize) -> Option<Entry>
+        ensures found { result ≡ slice_get (due_entries self.old) at }
         ensures unchanged { self.new ≡ self.old }
     {
         if at >= self.count_due() {
-            return Ok(None);
+            return None;
         }
-        bring_all(&mut self.front, &mut self.ready, at + 1)?;
-        Ok(place(&self.front, at))
+        bring_all(&mut self.front, &mut self.ready, at + 1);
+        place(&self.front, at)
     }
 
     /// Removes the due operation with the lowest version, if one is due. It does not allocate.

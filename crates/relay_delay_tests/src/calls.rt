@@ -14,9 +14,8 @@ fn desk_of(alloc: Global, dues: [u64; 4]) -> Option<Desk> {
 // Whether the first two that are due have these versions, where 0 means none.
 fn begins(desk: &mut Desk, versions: [u64; 2]) -> bool {
     for at in 0..2usize {
-        match due_at(desk, at) {
-            Some(one) if one.map_or(0, |one| one.version) == versions[at] => {}
-            _ => return false,
+        if due_at(desk, at).map_or(0, |one| one.version) != versions[at] {
+            return false;
         }
     }
     true

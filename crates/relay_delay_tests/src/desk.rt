@@ -84,11 +84,7 @@ pub fn wait(desk: &mut Desk, ticks: u64) {
     desk.queue.tick(clock);
 }
 
-/// The operation that is due at a place. It tries once more if an allocation fails. `None`: it
-/// failed twice.
-pub fn due_at(desk: &mut Desk, at: usize) -> Option<Option<Entry>> {
-    if let Ok(one) = desk.queue.due_at(at) {
-        return Some(one);
-    }
-    desk.queue.due_at(at).ok()
+/// The operation that is due at a place.
+pub fn due_at(desk: &mut Desk, at: usize) -> Option<Entry> {
+    desk.queue.due_at(at)
 }

@@ -40,7 +40,7 @@ fn sees(game: &mut Game, count: usize) -> bool {
     let mut above = 0;
     for at in 0..count {
         let wanted = next_due(&game.rows, game.clock, above);
-        if due_at(&mut game.desk, at) != Some(wanted) {
+        if due_at(&mut game.desk, at) != wanted {
             return false;
         }
         match wanted {

@@ -1,5 +1,5 @@
 -- The held list, and the queues of documents that it is made of.
-use Rattle.std.specs.Prelude.{◌≡◌, ℕ, ◌+◌, ◌<◌, List, [], ◌∷◌, Option, Some, None, Result, Ok, Err, unwrap_or, option_map, Bool, cond, not, ◌&&◌, nat_lt, nat_le, min, map, filter, length, drop, slice_get, if◌then◌else◌}
+use Rattle.std.specs.Prelude.{◌≡◌, ℕ, ◌+◌, ◌<◌, List, [], ◌∷◌, Option, Some, None, unwrap_or, option_map, Bool, cond, not, ◌&&◌, nat_lt, nat_le, min, map, filter, length, drop, slice_get, if◌then◌else◌}
 use Rattle.std.specs.List.{list_any}
 use Rattle.std.specs.Map.{lookup}
 use Rattle.relay_action.specs.declared.key.DocKey.{DocKey}
@@ -101,10 +101,9 @@ pub record Holding : Type 0 where
   pub looks : ℕ
 
 -- the looks after this result: one more if an operation was found; the count saturates
-abbrev pub looked : {E : Type 0} → Result (Option Candidate) E → ℕ → ℕ
-looked (Ok (Some one)) looks = if nat_lt looks 18446744073709551615 then looks + 1 else looks
-looked (Ok None) looks = looks
-looked (Err e) looks = looks
+abbrev pub looked : Option Candidate → ℕ → ℕ
+looked (Some one) looks = if nat_lt looks 18446744073709551615 then looks + 1 else looks
+looked None looks = looks
 
 -- a tick later; the clock saturates
 abbrev pub later : ℕ → ℕ

@@ -1,7 +1,7 @@
 //! What a lane holds.
 ghost use Rattle.std.specs.Prelude.{◌≡◌, ◌-◌, ◌<◌, ◌≤◌, ◌^◌, ◌++◌, ◌∷◌, [], Some, None, false};
 ghost use Rattle.std.specs.Prelude.{filter, length, slice_get, option_map, OnOk, OnErr, IfErr};
-ghost use Rattle.std.specs.Prelude.{IfOk, IfSome};
+ghost use Rattle.std.specs.Prelude.{IfSome};
 ghost use Rattle.std.specs.Option.{option_copied};
 ghost use Rattle.relay_action.specs.declared.key.DocKey.{DocKey};
 ghost use Rattle.relay_delay.specs.Waiting.{has_version};
@@ -17,7 +17,7 @@ use crate::documents::{Documents, Taken};
 use crate::kept::{Candidate, Kept};
 use relay_action::{DocKey, OpName, Write};
 use relay_delay::{DelayQueue, Entry};
-use std::alloc::{AllocError, Global};
+use std::alloc::Global;
 use std::marker::Model;
 
 /// An allocation failed; the operation is returned.
@@ -146,19 +146,16 @@ impl Held {
 
     /// The operation at a place of those that may be sent, in ascending order of version: each is
     /// the first of its document, waits and is due. If there is one, this is one more look; nothing
-    /// else that contracts see changes. `AllocError`: an allocation failed, and there is an
-    /// operation at that place, which was not looked at. Ask for 0, 1, 2, .. in turn.
-    pub fn candidate(&mut self, at: usize) -> Result<Option<Candidate>, AllocError>
-        ensures found { IfOk result (λ c. c ≡ option_map candidate_of
-            (slice_get (candidates_kept self.old.list self.old.clock) at)) }
-        ensures err { OnErr result (at < length (candidates_kept self.old.list self.old.clock)) }
+    /// else that contracts see changes. Ask for 0, 1, 2, .. in turn. It does not allocate.
+    pub fn candidate(&mut self, at: usize) -> Option<Candidate>
+        ensures found { result ≡ option_map candidate_of
+            (slice_get (candidates_kept self.old.list self.old.clock) at) }
+        ensures rises { Rises self.old.list }
         ensures same { self.new ≡ record self.old { looks = looked result self.old.looks } }
     {
-        let Some(entry) = self.waiting.due_at(at)? else {
-            return Ok(None);
-        };
+        let entry = self.waiting.due_at(at)?;
         self.looks = self.looks.saturating_add(1);
-        Ok(self.documents.candidate(entry.slot))
+        self.documents.candidate(entry.slot)
     }
 
     /// Sends the first operation that may be sent, and takes its write out.

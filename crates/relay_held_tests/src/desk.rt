@@ -80,19 +80,16 @@ pub fn tick(desk: &mut Desk) {
     desk.held.tick();
 }
 
-/// The operation at a place of those that may be sent. It asks once more if an allocation fails.
+/// The operation at a place of those that may be sent.
 pub fn candidate(desk: &mut Desk, at: usize) -> Option<Candidate> {
-    match desk.held.candidate(at) {
-        Ok(one) => one,
-        Err(_) => desk.held.candidate(at).ok().flatten(),
-    }
+    desk.held.candidate(at)
 }
 
 /// Sends the first operation that may be sent. `None` if there is none.
 pub fn launch(desk: &mut Desk, request: u64, place: u64) -> Option<Write> {
     match desk.held.candidate(0) {
-        Ok(Some(_)) => desk.held.launch(request, place),
-        _ => None,
+        Some(_) => desk.held.launch(request, place),
+        None => None,
     }
 }
 

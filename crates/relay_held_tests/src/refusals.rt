@@ -1,9 +1,9 @@
 //! What is held, with any one of its allocations refused (`make refusals`).
 use crate::desk::{candidate, empty_desk, push};
 
-// The operation is held when it is pushed again, and may be sent when it is asked for again.
+// The operation is held when it is pushed again, and may then be sent.
 #[test]
-fn refused_pushes_and_candidates(rt: HostRuntime) {
+fn refused_pushes(rt: HostRuntime) {
     let alloc = rt.alloc();
     let mut desk = empty_desk(alloc);
     for document in [0, 0, 1] {

@@ -33,6 +33,7 @@ due-preserved c =
     record {
       moving = m.0;
       same = m.1 ∙ i.same;
+      capacity = c.add.ensures.capacity ∙ i.capacity;
       ready_room = omega (arith, grows, before);
       later_room = e.1 ∙ i.later_room;
     }

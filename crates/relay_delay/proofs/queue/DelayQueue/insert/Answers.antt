@@ -10,7 +10,7 @@ push-requires-clause-room c =
     let n = counted d.front.items d.ready.entries d.later.entries in
     let s = ap (λ (s : Delays). length s.entries) c.self.view_is in
     let t = ap (λ (s : Delays). s.room) c.self.view_is in
-    let few = c.requires.room in let room = c.self.invariant.later_room in
+    let few = c.requires.room in let room = c.self.invariant.delayed.later_room in
     omega (arith, n, s, t, few, room)
 
 pub push-requires-clause-fresh : goal.push-requires-clause-fresh
@@ -24,8 +24,11 @@ invariant_of-self c =
     let s = ap (λ (s : Delays). length s.entries) c.self.view_is in
     let t = ap (λ (s : Delays). s.room) c.self.view_is in
     let few = c.requires.room in
-    (insert_later d.clock d.room d.front.items d.ready d.later c.push.new.self c.args.one c.self.invariant c.if-self-one.true
-    (ap (λ (s : Delays). has_version c.args.one.version s.entries) c.self.view_is ∙ c.requires.fresh) (omega (arith, s, t, few)) c.push.ensures.room c.push.ensures.entries).delayed
+    record {
+      delayed = (insert_later d.clock d.room d.front.items d.ready d.later c.push.new.self c.args.one c.self.invariant.delayed c.if-self-one.true
+          (ap (λ (s : Delays). has_version c.args.one.version s.entries) c.self.view_is ∙ c.requires.fresh) (omega (arith, s, t, few)) c.push.ensures.room c.push.ensures.entries).delayed;
+      front_room = c.self.invariant.front_room;
+    }
 
 pub returns-then-self-one : goal.returns-then-self-one
 returns-then-self-one c =
@@ -34,11 +37,11 @@ returns-then-self-one c =
     let t = ap (λ (s : Delays). s.room) c.self.view_is in
     let few = c.requires.room in
     shown_inserted c.args.one d.clock d.room _ _ c.args.self.now c.self.view_is
-    (insert_later d.clock d.room d.front.items d.ready d.later c.push.new.self c.args.one c.self.invariant c.if-self-one.true
+    (insert_later d.clock d.room d.front.items d.ready d.later c.push.new.self c.args.one c.self.invariant.delayed c.if-self-one.true
     (ap (λ (s : Delays). has_version c.args.one.version s.entries) c.self.view_is ∙ c.requires.fresh) (omega (arith, s, t, few)) c.push.ensures.room c.push.ensures.entries).entries
 
 pub add-requires-clause-rises : goal.add-requires-clause-rises
-add-requires-clause-rises c = let d = c.self.inside in inserted_rises d.later.entries (d.front.items ++ d.ready.entries) c.self.invariant.rises
+add-requires-clause-rises c = let d = c.self.inside in inserted_rises d.later.entries (d.front.items ++ d.ready.entries) c.self.invariant.delayed.rises
 
 pub add-requires-clause-fresh : goal.add-requires-clause-fresh
 add-requires-clause-fresh c =
@@ -51,7 +54,7 @@ add-requires-clause-room c =
     let n = counted d.front.items d.ready.entries d.later.entries in
     let s = ap (λ (s : Delays). length s.entries) c.self.view_is in
     let t = ap (λ (s : Delays). s.room) c.self.view_is in
-    let few = c.requires.room in let room = c.self.invariant.ready_room in
+    let few = c.requires.room in let room = c.self.invariant.delayed.ready_room in
     omega (arith, n, s, t, few, room)
 
 pub invariant_of-self-else-self-one : goal.invariant_of-self-else-self-one
@@ -60,8 +63,11 @@ invariant_of-self-else-self-one c =
     let s = ap (λ (s : Delays). length s.entries) c.self.view_is in
     let t = ap (λ (s : Delays). s.room) c.self.view_is in
     let few = c.requires.room in
-    (insert_due d.clock d.room d.front.items c.add.new.front.items d.ready c.add.new.ready d.later c.args.one c.self.invariant c.if-self-one.false
-    (ap (λ (s : Delays). has_version c.args.one.version s.entries) c.self.view_is ∙ c.requires.fresh) (omega (arith, s, t, few)) c.add.ensures.room c.add.ensures.added).delayed
+    record {
+      delayed = (insert_due d.clock d.room d.front.items c.add.new.front.items d.ready c.add.new.ready d.later c.args.one c.self.invariant.delayed c.if-self-one.false
+          (ap (λ (s : Delays). has_version c.args.one.version s.entries) c.self.view_is ∙ c.requires.fresh) (omega (arith, s, t, few)) c.add.ensures.room c.add.ensures.added).delayed;
+      front_room = (let cap = c.add.ensures.capacity in let room = c.self.invariant.front_room in omega (arith, cap, room));
+    }
 
 pub returns-else-self-one : goal.returns-else-self-one
 returns-else-self-one c =
@@ -70,5 +76,5 @@ returns-else-self-one c =
     let t = ap (λ (s : Delays). s.room) c.self.view_is in
     let few = c.requires.room in
     shown_inserted c.args.one d.clock d.room _ _ c.args.self.now c.self.view_is
-    (insert_due d.clock d.room d.front.items c.add.new.front.items d.ready c.add.new.ready d.later c.args.one c.self.invariant c.if-self-one.false
+    (insert_due d.clock d.room d.front.items c.add.new.front.items d.ready c.add.new.ready d.later c.args.one c.self.invariant.delayed c.if-self-one.false
     (ap (λ (s : Delays). has_version c.args.one.version s.entries) c.self.view_is ∙ c.requires.fresh) (omega (arith, s, t, few)) c.add.ensures.room c.add.ensures.added).entries
