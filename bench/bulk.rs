@@ -1,7 +1,8 @@
 // The two ends that every relay is measured with, in plain Rust. `bulk serve NANOSECONDS [MOST [MICROSECONDS]]` is an index
 // that answers each bulk request with success, after NANOSECONDS per operation and MICROSECONDS per request, or with 413 if
 // its body has more than MOST bytes. `bulk ready PORT FILE..` sends requests that were prepared in files, with one
-// connection per file, and reads each reply to its end.
+// connection per file, and reads each reply to its end. `bulk single PORT COUNT` sends COUNT requests of one write, one after
+// another, and prints the median of the times until the reply has come.
 use std::fs::File;
 use std::io::{self, BufRead, BufReader, Write};
 use std::net::{TcpListener, TcpStream};
@@ -189,6 +190,27 @@ fn ready(port: &str, paths: &[String]) -> io::Result<()> {
     Ok(())
 }
 
+// Sends requests of one write, each once the reply to the one before has come.
+fn single(port: &str, count: usize) -> io::Result<()> {
+    let mut output = TcpStream::connect(format!("127.0.0.1:{port}"))?;
+    output.set_nodelay(true)?;
+    let mut input = BufReader::with_capacity(262_144, output.try_clone()?);
+    let (mut reply, mut times) = (Vec::new(), Vec::with_capacity(count));
+    for number in 0..count {
+        let body = format!("{{\"index\":{{\"_index\":\"books\",\"_id\":\"{}\"}}}}\n{{\"title\":\"{number}\"}}\n", number % 1000);
+        let request = format!("POST /_bulk HTTP/1.1\r\nHost: 127.0.0.1\r\nContent-Type: application/x-ndjson\r\nContent-Length: {}\r\n\r\n{body}", body.len());
+        let start = Instant::now();
+        output.write_all(request.as_bytes())?;
+        let head = read_message(&mut input, &mut reply)?.expect("a reply");
+        times.push(start.elapsed().as_nanos());
+        let text = std::str::from_utf8(&reply[head..]).expect("a text");
+        assert!(text.contains("\"errors\":false"), "{text}");
+    }
+    times.sort_unstable();
+    println!("{count} writes, {:.1} us", times[count / 2] as f64 / 1000.0);
+    Ok(())
+}
+
 fn main() -> io::Result<()> {
     let words: Vec<String> = std::env::args().skip(1).collect();
     match words.split_first().map(|(command, rest)| (command.as_str(), rest)) {
@@ -201,6 +223,7 @@ fn main() -> io::Result<()> {
             serve(pace, number(0, u64::MAX) as usize)
         }
         Some(("ready", [port, paths @ ..])) => ready(port, paths),
-        _ => panic!("usage: bulk serve NANOSECONDS [MOST [MICROSECONDS]], bulk ready PORT FILE.."),
+        Some(("single", [port, count])) => single(port, count.parse().expect("a number")),
+        _ => panic!("usage: bulk serve NANOSECONDS [MOST [MICROSECONDS]], bulk ready PORT FILE.., bulk single PORT COUNT"),
     }
 }

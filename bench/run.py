@@ -1,7 +1,7 @@
 """Compares the project's programs with others, all in one run. Only the ratios count.
 
 `python3 bench/run.py [PART..]` measures the named parts, or all of them: lines, pick, apply, queue, tell, replies, lane,
-http, world, run. `--operations N` sets the number of operations of `run`, 50,000 by default.
+http, world, run, serve. `--operations N` sets the number of operations of `run`, 50,000 by default.
 """
 import argparse
 import os
@@ -16,6 +16,7 @@ import pick_bench
 import queue_bench
 import replies_bench
 import run_bench
+import serve_bench
 import tell_bench
 import world_bench
 
@@ -35,6 +36,7 @@ PARTS = [
     ("http", RELAY_BENCH, "`rt run` in crates/relay_bench", http_bench.measure),
     ("world", RELAY, "`make build`", world_bench.measure),
     ("run", RELAY, "`make build`", run_bench.measure),
+    ("serve", RELAY, "`make build`", serve_bench.measure),
 ]
 
 

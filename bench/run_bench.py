@@ -112,6 +112,11 @@ def write_requests(relay, path, ready):
     """Writes the requests for the operations of a file, byte for byte as they are sent."""
     with open(path, "rb") as file:
         lines = subprocess.run([relay, "lines"], stdin=file, stdout=subprocess.PIPE, check=True).stdout.split(b"\n")
+    return write_bodies(lines, ready)
+
+
+def write_bodies(lines, ready):
+    """Writes requests of `COUNT` operations each with these lines, of which the last is empty."""
     body, count, at = [], 0, 0
     with open(ready, "wb") as file:
         while at < len(lines) - 1:

@@ -1,17 +1,17 @@
 """Shows the program's commands on the files of this folder. `make demo` runs `python3 examples/demo.py` at the top.
 
-The program is built without proof and with run-time checks, which takes only minutes; `make build` proves it. Each
-`rt try` builds it once: one for the commands that read standard input, and two more, in parallel, for `relay stub` and
-`relay run`.
+The program is built without proof and with run-time checks, which takes only minutes; `make build` proves it.
 """
+import importlib
 import os
+import shutil
 import subprocess
 import sys
 import tempfile
 
 EXAMPLES = os.path.dirname(os.path.abspath(__file__))
-CRATE = os.path.join(os.path.dirname(EXAMPLES), "crates", "relay")
-PORT = 19200
+sys.path.insert(0, os.path.join(os.path.dirname(EXAMPLES), "tests"))
+build = importlib.import_module("try").build
 
 # A command, the file that is its standard input, and what it shows.
 CASES = (
@@ -20,50 +20,80 @@ CASES = (
     ("apply --refuse 2:429", "books.bulk", "the reply of a fresh stand-in index, which refuses the second item"),
     ("world", "lost_reply.script", "a reply is lost after the write was applied: the second send finds that out"),
 )
-STUB = "stub --listen 127.0.0.1:%d --requests 4 --refuse 2:429,3:400" % PORT
-RUN = "run --to 127.0.0.1:%d --epoch-from relay/epoch --patience 120 books.ndjson" % PORT
+STUB = "stub --listen 127.0.0.1:%d --requests %d --refuse %s"
+RUN = "run --to 127.0.0.1:%d --epoch-from relay/epoch --patience 120 books.ndjson"
+SERVE = "serve --listen 127.0.0.1:%d --to 127.0.0.1:%d --epoch-from relay/epoch --patience 120 --lanes 1"
+# What is asked of `relay serve`: what it shows, and what curl is given.
+ASKED = (
+    ("a document", ["-XPUT", "/books/_doc/1", "-d", '{"title":"Emma"}']),
+    ("a bulk request, in which the index refuses the first operation; the delete finds nothing", ["-XPOST", "/_bulk", "--data-binary", "@books.ndjson"]),
+)
 
 
-def tried(arguments, *flags):
-    """Starts a command of the program, built without proof."""
-    command = ["rt", "try", "--seconds", "170", *flags, "--", *arguments.split()]
-    return subprocess.Popen(command, cwd=CRATE, stdin=subprocess.DEVNULL, stdout=subprocess.PIPE, stderr=subprocess.PIPE, text=True)
+def started(program, arguments, **more):
+    """Starts a command of the program in this folder."""
+    return subprocess.Popen([program, *arguments.split()], cwd=EXAMPLES, stdout=subprocess.PIPE, stderr=subprocess.PIPE, text=True, **more)
 
 
-def cases(folder):
-    """Writes all cases into one folder, as `rt try --cases` expects them."""
-    for at, (arguments, name, _) in enumerate(CASES):
-        with open(os.path.join(EXAMPLES, name)) as file, open(os.path.join(folder, "%d" % at), "w") as copy:
-            copy.write(file.read())
-        with open(os.path.join(folder, "%d.args" % at), "w") as file:
-            file.write("".join(word + "\n" for word in arguments.split()))
+def show(title, *texts):
+    print("\n--- %s\n%s" % (title, "".join(texts)), end="")
 
 
-def outputs(text):
-    """Returns what each case printed, by its position."""
-    found, name = {}, None
-    for line in text.splitlines():
-        if line.startswith("== "):
-            name = line[3:].strip()
-            found[name] = []
-        elif name is not None:
-            found[name].append(line)
-    return {name: "\n".join(lines) for name, lines in found.items()}
+def streams(program):
+    """Shows the commands that read standard input and end with it. Returns whether each printed something."""
+    printed = []
+    for arguments, name, what in CASES:
+        with open(os.path.join(EXAMPLES, name)) as file:
+            out, err = started(program, arguments, stdin=file).communicate()
+        show("relay %s < examples/%s\n    (%s)" % (arguments, name, what), out, err)
+        printed.append(out)
+    return all(printed)
+
+
+def applied(served):
+    """Shows what the stand-in index applied, and returns whether it listed something."""
+    listed, said = served.communicate(timeout=60)
+    show("what the stand-in index applied, as `relay stub` lists it at its end", listed, said)
+    return bool(listed)
+
+
+def run(program, port):
+    """Shows `relay run` against `relay stub`. Returns whether both printed something."""
+    stub, words = STUB % (port, 4, "2:429,3:400"), RUN % port
+    served = started(program, stub, stdin=subprocess.DEVNULL)
+    out, err = started(program, words, stdin=subprocess.DEVNULL).communicate()
+    show("relay %s &\n--- relay %s\n    (the first connection gives the epoch; item 2 is sent again, item 3 is reported)" % (stub, words), out, err)
+    return applied(served) and bool(out)
+
+
+def serve(program, port, own):
+    """Shows `relay serve` in front of `relay stub`, asked by curl. Returns whether each request was answered."""
+    if not shutil.which("curl"):
+        print("\nrelay serve is not shown: curl is not installed")
+        return True
+    stub, words = STUB % (port, 4, "2:400"), SERVE % (own, port)
+    served = started(program, stub, stdin=subprocess.DEVNULL)
+    server = started(program, words, stdin=subprocess.PIPE)
+    show("relay %s &\n--- relay %s" % (stub, words), server.stderr.readline())
+    answers = []
+    for what, (method, target, *more) in ASKED:
+        command = ["curl", method, "http://127.0.0.1:%d%s" % (own, target), *more]
+        answers.append(subprocess.run([*command, "-s"], cwd=EXAMPLES, capture_output=True, text=True).stdout)
+        show("%s\n    (%s)" % (" ".join("'%s'" % it if "{" in it else it for it in command), what), answers[-1], "\n")
+    out, err = server.communicate()
+    show("the end of its standard input stops it", out, err)
+    return applied(served) and all(answers)
 
 
 def main():
     print("building the program without proof, with run-time checks (`make build` proves it); this takes two to four minutes", flush=True)
     with tempfile.TemporaryDirectory() as folder:
-        cases(folder)
-        served, ran = tried(STUB), tried(RUN, "--data", "books.ndjson=%s" % os.path.join(EXAMPLES, "books.ndjson"))
-        several = subprocess.run(["rt", "try", "--cases", folder], cwd=CRATE, stdin=subprocess.DEVNULL, capture_output=True, text=True)
-    shown = outputs(several.stdout)
-    for at, (arguments, name, what) in enumerate(CASES):
-        print("\n--- relay %s < examples/%s\n    (%s)\n%s" % (arguments, name, what, shown.get("%d" % at, "nothing was printed:\n" + several.stderr[-2000:])))
-    (listed, stub_said), (told, run_said) = served.communicate(), ran.communicate()
-    print("\n--- relay %s &\n--- relay %s\n    (the first connection gives the epoch; item 2 is sent again, item 3 is reported)\n%s" % (STUB, RUN, told or run_said[-2000:]))
-    print("--- what the stand-in index applied, as `relay stub` lists it at its end\n%s" % (listed or stub_said[-2000:]))
-    sys.exit(0 if shown and told and listed else 1)
+        program = os.path.join(folder, "relay")
+        copied, _, said = build(program)
+        if not copied:
+            sys.exit(said)
+        shown = [streams(program), run(program, 19200), serve(program, 19201, 19300)]
+    sys.exit(0 if all(shown) else 1)
 
 
 main()

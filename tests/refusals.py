@@ -3,11 +3,12 @@ with names of test crates it runs only their tests.
 
 The tests in a file `refusals.rt` of a test crate pass whichever single allocation is refused. Each of them is run, as the gate
 built it, with its 1st, 2nd, .. allocation refused, until a run meets no refusal: `tests/refuse.c` intercepts the allocator of the
-C library. Then `relay run` is run against `relay stub` with every n-th allocation refused.
+C library. Then `relay run` is run against `relay stub`, and `relay serve` in front of an index, with every n-th allocation refused.
 
 It fails if a test fails, times out or never meets a refusal; if the table of docs/CONTRIBUTING.md lacks a public call that
-allocates, or names a test that does not exist or does not make that call; and if a run does not end, ends neither as out of memory
-nor as it would without refusals, or writes to a document twice or out of order.
+allocates, or names a test that does not exist or does not make that call; if a run does not end, ends neither as out of memory
+nor as it would without refusals, or writes to a document twice or out of order; and if a server says that something was written that
+was not, or breaks an answer off.
 """
 import concurrent.futures
 import glob
@@ -274,9 +275,11 @@ def main():
         check_tests(library, folder, wanted)
         if not wanted:
             import refused_runs
+            import refused_serves
 
-            for wrong in refused_runs.check_runs(lambda every: refusing(library, REFUSE_EVERY=every)):
-                fault(wrong)
+            for check in (refused_runs.check_runs, refused_serves.check_serves):
+                for wrong in check(lambda every: refusing(library, REFUSE_EVERY=every)):
+                    fault(wrong)
     print("%d failures" % len(FAULTS))
     sys.exit(1 if FAULTS else 0)
 

@@ -143,9 +143,13 @@ def documents():
     refused(serve, server, "a body that is not UTF-8", 400, "UTF-8", "PUT", "/books/_doc/1", b'{"\xff":1}')
     refused(serve, server, "a path that is not UTF-8", 400, "UTF-8", "PUT", "/books/_doc/%FF", b"{}")
     refused(serve, server, "a coded body", 415, "content-encoding", "PUT", "/books/_doc/1", b"{}", {"Content-Encoding": "gzip"})
+    refused(serve, server, "a coded bulk request", 415, "content-encoding", "POST", "/_bulk", b"{}", {"Content-Encoding": "GZIP"})
+    refused(serve, server, "a coded body with a parameter", 400, "[routing]", "PUT", "/books/_doc/1?routing=x", b"{}", {"Content-Encoding": "gzip"})
+    check("a body whose coding is none", serve.ask("PUT", "/books/_doc/plain", b"{}", {"Content-Encoding": "identity"})[0] == 201)
+    check("a coding where nothing is written", serve.whole("GET", "/", None, {"Content-Encoding": "gzip"})[0] == 200)
     status, out, err = serve.stop()
     check("the stop", (status, err) == (0, b""), (status, err))
-    check("the counts", out == b"applied 6 already 0 reported 1\n", out)
+    check("the counts", out == b"applied 7 already 0 reported 1\n", out)
 
 
 def bulk():

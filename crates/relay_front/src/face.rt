@@ -24,7 +24,7 @@ impl Face {
 
     /// The body of the answer to `GET /`.
     pub fn info(self) -> &'static str
-        ensures { result.now ≡ info_of self.entry }
+        ensures { result.now ≡ info_of self }
     {
         match self {
             Face::Compatible => COMPATIBLE,
