@@ -1,6 +1,6 @@
 //! Offers and readiness at the limits, and the items of a closed batch.
 use relay_action::OpName;
-use relay_batch::{BatchItem, Batcher, Limits, Offer, Room};
+use relay_batch::{BatchItem, Batcher, Limits, Offer, Room, Tally};
 use std::alloc::{AllocError, Global};
 use std::test::Fail;
 
@@ -107,6 +107,31 @@ const OFFERS: &[(&[(u64, u64, Offer)], bool)] = &[
 fn offers_and_readiness(rt: HostRuntime) {
     for (offers, ready) in OFFERS {
         assert!(rt; ready_after(rt.alloc(), LIMITS, offers, 10) == Ok(Some(*ready)));
+    }
+}
+
+// Whether a tally gets the answers of the batch, is ready when it is, and has the same first item.
+// A tally has no documents, so it is not offered what is Busy.
+fn tallies(alloc: Global, offers: &[(u64, u64, Offer)]) -> Result<bool, AllocError> {
+    let mut batcher = Batcher::new(alloc, LIMITS);
+    let mut tally = Tally::new(LIMITS);
+    let mut same = !tally.ready(10);
+    for (doc, bytes, answer) in offers {
+        let one = item(*doc, *bytes, 10);
+        same &= batcher.offer(one)? == *answer;
+        if *answer != Offer::Busy {
+            same &= tally.offer(one) == *answer;
+        }
+        same &= tally.ready(10) == batcher.ready(10);
+        same &= tally.first() == batcher.tally().first();
+    }
+    Ok(same)
+}
+
+#[test]
+fn a_tally_counts_as_the_batch(rt: HostRuntime) {
+    for (offers, _) in OFFERS {
+        assert!(rt; tallies(rt.alloc(), offers) == Ok(true));
     }
 }
 
@@ -332,4 +357,13 @@ fn caps_close_a_batch(rt: HostRuntime) -> Result<(), Fail> {
     assert!(rt; alone.offer(capped(1, 0))? == Offer::Added && alone.ready(10));
     assert!(rt; alone.offer(capped(2, 3))? == Offer::Closed);
     Ok(())
+}
+
+#[test]
+fn caps_close_a_tally(rt: HostRuntime) {
+    let mut tally = Tally::new(LIMITS);
+    assert!(rt; tally.offer(capped(1, 2)) == Offer::Added && !tally.ready(10));
+    assert!(rt; tally.offer(capped(2, 1)) == Offer::Closed && !tally.ready(10));
+    assert!(rt; tally.offer(capped(3, 3)) == Offer::Added && tally.ready(10));
+    assert!(rt; tally.offer(capped(4, 3)) == Offer::Closed && tally.ready(10));
 }

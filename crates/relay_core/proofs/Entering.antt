@@ -1,6 +1,6 @@
 -- The batch is the first of the candidates.
 use Rattle.std.proofs.Common.{◌≡◌, ℕ, zero, suc, ◌+◌, ◌<◌, ◌≤◌, List, [], ◌∷◌, length, Option, Some, None, Bool, true, false, refl, sym, ap, ◌∙◌, ⊎_elim, arith, take, drop}
-use Rattle.std.specs.Prelude.{map, nat_lt, if◌then◌else◌}
+use Rattle.std.specs.Prelude.{map, is_some, nat_lt, if◌then◌else◌}
 use Rattle.std.proofs.lemmas.Bool.{lt-ltb}
 use Rattle.std.proofs.lemmas.List.{length-map}
 use Rattle.relay_action.specs.declared.write.Write.{Write}
@@ -21,7 +21,7 @@ use Rattle.relay_core.proofs.Reading.{offers_seen}
 use Rattle.relay_core.proofs.Forming.{batch_offered}
 use Rattle.relay_core.proofs.Going.{BelowFirst, first_ones}
 
-below_none : (cs : List Kept) → BelowFirst cs []
+pub below_none : (cs : List Kept) → BelowFirst cs []
 below_none [] = tt
 below_none (c ∷ cs) = tt
 
@@ -76,3 +76,8 @@ batch_now s f hs closed b held c lt e =
     e
     ∙ (λ i. batch_of s.core.clock s.mark (c i) s.config.limits (sym (offers_seen s.core f hs held) i))
     ∙ sym (ap (λ t. if t then batch_of s.core.clock s.mark (all_closed s) s.config.limits (map item_of (candidates s.core)) else None) few)
+
+-- ... and one is sent exactly if what is gathered is
+pub due_now : (s : State) (f : ℕ → List Write) (hs : List Kept) (closed : Bool) → s.core.held ≡ entries hs f → closed ≡ all_closed s → length s.flights.batches < s.config.in_flight
+    → is_some (batch_of s.core.clock s.mark closed s.config.limits (items_of_kept hs s.core.clock hs)) ≡ is_some (next_batch s)
+due_now s f hs closed held c lt = ap is_some (batch_now s f hs closed (batch_of s.core.clock s.mark closed s.config.limits (items_of_kept hs s.core.clock hs)) held c lt refl)

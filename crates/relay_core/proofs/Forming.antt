@@ -1,6 +1,6 @@
 -- The batch of the sending rule, in terms of what is in memory.
 use Rattle.std.proofs.Common.{◌≡◌, ℕ, ◌<◌, List, [], ◌∷◌, length, Option, Some, None, Bool, true, false, refl, sym, ap, ◌∙◌, subst, arith}
-use Rattle.std.specs.Prelude.{if◌then◌else◌, nat_lt, map, filter, Result, Ok, Err, IfOk, is_ok}
+use Rattle.std.specs.Prelude.{if◌then◌else◌, nat_lt, map, filter, Result, Ok, Err, IfOk, is_ok, is_some}
 use borrow.Author.Tests.{ltb-true}
 use Rattle.relay_action.specs.declared.write.Write.{Write}
 use Rattle.relay_batch.specs.declared.item.BatchItem.{BatchItem}
@@ -81,3 +81,11 @@ candidates_of_batch s items e =
     let n = length-map (candidates s.core) item_of in
     let some = some_offered s.core.clock s.mark (all_closed s) s.config.limits (map item_of (candidates s.core)) items a.1 in
     omega (arith, some, n)
+
+-- if there is a batch to send, there are candidates
+pub candidates_due : (s : State) → is_some (next_batch s) ≡ true → 0 < length (candidates s.core)
+candidates_due s due = by (next_batch s) refl due
+  where
+    by : (o : Option (List BatchItem)) → next_batch s ≡ o → is_some o ≡ true → 0 < length (candidates s.core)
+    by None e t = absurd (cc)
+    by (Some items) e t = candidates_of_batch s items e

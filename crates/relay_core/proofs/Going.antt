@@ -279,7 +279,7 @@ abbrev pub DocsBelow : ℕ → List BatchItem → Type 0
 DocsBelow v [] = Unit {0}
 DocsBelow v (i ∷ is) = (i.doc < v) × DocsBelow v is
 
-docs_free : (v : ℕ) (is : List BatchItem) → DocsBelow v is → holds_document v is ≡ false
+pub docs_free : (v : ℕ) (is : List BatchItem) → DocsBelow v is → holds_document v is ≡ false
 docs_free v [] b = refl
 docs_free v (i ∷ is) b = ⊎_elim {C = ((i.doc == v) || holds_document v is) ≡ false}
     (λ t. let e = equal i.doc v t in absurd (omega (arith, e, b.0)))
@@ -290,7 +290,7 @@ docs_more : (v w : ℕ) (is : List BatchItem) (x : BatchItem) → v < w → x.do
 docs_more v w [] x lt e b = (omega (arith, lt, e), tt)
 docs_more v w (i ∷ is) x lt e b = (omega (arith, lt, b.0), docs_more v w is x lt e b.1)
 
-answered_open : (i : BatchItem) (g : Gathering) → holds_document i.doc g.items ≡ false → (answer_to i g ≡ Closed) ⊎ (answer_to i g ≡ Added)
+pub answered_open : (i : BatchItem) (g : Gathering) → holds_document i.doc g.items ≡ false → (answer_to i g ≡ Closed) ⊎ (answer_to i g ≡ Added)
 answered_open i g f = ⊎_elim {C = (answer_to i g ≡ Closed) ⊎ (answer_to i g ≡ Added)}
     (λ t. inl (ap (λ b. if b then Busy else if (passes_count g i.cap || passes_bytes g i.bytes) then Closed else Added) f ∙ ap (λ b. if b then Closed else Added) t))
     (λ n. inr (ap (λ b. if b then Busy else if (passes_count g i.cap || passes_bytes g i.bytes) then Closed else Added) f ∙ ap (λ b. if b then Closed else Added) n))
@@ -304,7 +304,7 @@ abbrev pub BelowFirst : List Kept → List BatchItem → Type 0
 BelowFirst [] is = Unit {0}
 BelowFirst (c ∷ cs) is = DocsBelow c.version is
 
-below_next : (c : Kept) (cs : List Kept) (is : List BatchItem) → AllAbove c.version cs → DocsBelow c.version is → BelowFirst cs (is ++ item_of_kept c ∷ [])
+pub below_next : (c : Kept) (cs : List Kept) (is : List BatchItem) → AllAbove c.version cs → DocsBelow c.version is → BelowFirst cs (is ++ item_of_kept c ∷ [])
 below_next c [] is a b = tt
 below_next c (d ∷ cs) is a b = docs_more c.version d.version is (item_of_kept c) a.0 refl b
 

@@ -24,3 +24,6 @@ pub mod Quiet
 pub mod Looking
 pub mod Shown
 pub mod Lasting
+pub mod Asking
+pub mod Counting
+pub mod Still

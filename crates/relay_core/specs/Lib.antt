@@ -10,3 +10,4 @@ pub mod Endings
 pub mod Flights
 pub mod Quiet
 pub mod Tried
+pub mod Counting

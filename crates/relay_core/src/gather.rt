@@ -1,18 +1,20 @@
 //! The next batch.
-ghost use Rattle.std.specs.Prelude.{◌≡◌, ◌||◌, true, IfOk, IfSome, OnErr, min, ◌+◌, ◌<◌, ◌≤◌};
-ghost use Rattle.std.specs.Prelude.{length, []};
+ghost use Rattle.std.specs.Prelude.{◌≡◌, ◌||◌, true, None, IfOk, IfErr, IfSome, OnErr, min, ◌+◌};
+ghost use Rattle.std.specs.Prelude.{◌≤◌, is_some, length, []};
+ghost use Rattle.relay_batch.specs.Tallies.{tally_of};
 ghost use Rattle.relay_core.specs.Walk.{item_of_candidate, items_of_kept};
 ghost use Rattle.relay_core.specs.Rule.{gathering_after, closes, is_marked, batch_of};
 ghost use Rattle.relay_core.specs.Quiet.{is_roomy, no_room, less, IsQuiet};
 ghost use Rattle.relay_held.specs.Queues.{distinct, documents};
 
+use crate::count::{Counted, count_from, is_batch_due};
 use relay_batch::{Batch, BatchItem, Batcher, Limits, Offer, Room};
 use relay_held::{Candidate, Held};
 use std::alloc::{AllocError, Global};
 
-// The item of a candidate. Its own version serves as the number of its document, since nothing
-// older is held of that document.
-fn item_of(one: Candidate) -> BatchItem
+/// The item of a candidate. Its own version serves as the number of its document, since nothing
+/// older is held of that document.
+pub(crate) fn item_of(one: Candidate) -> BatchItem
     ensures { result ≡ item_of_candidate one }
 {
     BatchItem {
@@ -34,17 +36,24 @@ pub struct Gathered {
     pub closed: bool,
 }
 
-/// Offers the candidates in ascending order of version until one is Closed or none is left. Only
-/// [`Held::candidate`] returns a candidate, and it counts each one as a look.
-pub(crate) fn gather(alloc: Global, held: &mut Held, limits: Limits) -> Result<Gathered, AllocError>
+/// Offers the candidates in ascending order of version until one is Closed or none is left. If an
+/// allocation fails, they are counted instead. Only [`Held::candidate`] returns a candidate, and it
+/// counts each one as a look.
+pub(crate) fn gather(alloc: Global, held: &mut Held, limits: Limits) -> Result<Gathered, Counted>
     ensures batch { IfOk result
         (λ g. g.batcher
         ≡ gathering_after (items_of_kept held.old.list held.old.clock held.old.list)
         (record { limits = limits; items = [] })) }
-    ensures err { OnErr result
-        (0 < length (items_of_kept held.old.list held.old.clock held.old.list)) }
     ensures closed { IfOk result
         (λ g. g.closed
+        ≡ closes (items_of_kept held.old.list held.old.clock held.old.list)
+        (record { limits = limits; items = [] })) }
+    ensures counted { IfErr result
+        (λ k. k.tally
+        ≡ tally_of (gathering_after (items_of_kept held.old.list held.old.clock held.old.list)
+        (record { limits = limits; items = [] }))) }
+    ensures count_closed { IfErr result
+        (λ k. k.closed
         ≡ closes (items_of_kept held.old.list held.old.clock held.old.list)
         (record { limits = limits; items = [] })) }
     ensures held { held.new ≡ record held.old { looks = held.new.looks } }
@@ -56,10 +65,19 @@ pub(crate) fn gather(alloc: Global, held: &mut Held, limits: Limits) -> Result<G
 {
     let mut batcher = Batcher::new(alloc, limits);
     'candidates: for at in 0..held.documents() {
-        let Some(one) = held.candidate(at)? else {
+        let Some(one) = held.candidate(at) else {
             break;
         };
-        match batcher.offer(item_of(one))? {
+        let item = item_of(one);
+        let answer = match batcher.offer(item) {
+            Ok(answer) => answer,
+            Err(AllocError) => {
+                let mut tally = batcher.tally();
+                let _ = tally.offer(item);
+                return Err(count_from(held, tally, at + 1));
+            }
+        };
+        match answer {
             Offer::Closed => {
                 return Ok(Gathered {
                     batcher,
@@ -84,8 +102,8 @@ fn is_flushed(items: &[BatchItem], mark: u64) -> bool
     }
 }
 
-// Whether what was gathered is to be sent.
-fn is_asked(is_ready: bool, closed: bool, is_flushed: bool, all_closed: bool) -> bool
+/// Whether what was gathered is to be sent.
+pub(crate) fn is_asked(is_ready: bool, closed: bool, is_flushed: bool, all_closed: bool) -> bool
     ensures { result ≡ (is_ready || (closed || (is_flushed || all_closed))) }
 {
     is_ready || closed || is_flushed || all_closed
@@ -143,8 +161,20 @@ fn ahead_of(limits: Limits, closed: bool) -> Room {
     }
 }
 
+// Nothing is to be sent, until the rule is checked again.
+fn no_batch() -> Due
+    ensures batch { result.batch ≡ None }
+    ensures room { result.room ≡ no_room }
+{
+    Due {
+        batch: None,
+        room: no_room(),
+        ahead: no_room(),
+    }
+}
+
 /// The batch to send now, if there is one; otherwise, until when the rule need not be checked
-/// again.
+/// again. `AllocError`: an allocation failed, and there is a batch to send.
 pub(crate) fn due_batch(
     alloc: Global,
     held: &mut Held,
@@ -159,8 +189,9 @@ pub(crate) fn due_batch(
     ensures quiet { IfOk result (λ d. is_roomy d.room ≡ true
         → IsQuiet held.old.clock mark all_closed limits
         (items_of_kept held.old.list held.old.clock held.old.list) d.room) }
-    ensures err { OnErr result
-        (0 < length (items_of_kept held.old.list held.old.clock held.old.list)) }
+    ensures due { OnErr result
+        (is_some (batch_of held.old.clock mark all_closed limits
+        (items_of_kept held.old.list held.old.clock held.old.list)) ≡ true) }
     ensures held { held.new ≡ record held.old { looks = held.new.looks } }
     ensures looks { held.new.looks ≤ held.old.looks + distinct (documents held.old.list) }
     ensures looks_rise { held.old.looks ≤ held.new.looks }
@@ -168,15 +199,19 @@ pub(crate) fn due_batch(
         (λ d. IfSome d.batch (λ b. min (held.old.looks + length b) 18446744073709551615
         ≤ held.new.looks)) }
 {
-    let Gathered { batcher, closed } = gather(alloc, held, limits)?;
+    let Gathered { batcher, closed } = match gather(alloc, held, limits) {
+        Ok(gathered) => gathered,
+        Err(counted) => {
+            if is_batch_due(counted, held.clock(), mark, all_closed) {
+                return Err(AllocError);
+            }
+            return Ok(no_batch());
+        }
+    };
     let is_ready = batcher.ready(held.clock());
     let room = batcher.room();
     let Some(batch) = batcher.close() else {
-        return Ok(Due {
-            batch: None,
-            room: no_room(),
-            ahead: no_room(),
-        });
+        return Ok(no_batch());
     };
     if is_asked(
         is_ready,

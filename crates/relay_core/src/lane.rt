@@ -19,6 +19,7 @@ ghost use Rattle.relay_core.specs.State.{explained_at, AreCounts, next_batch, af
 ghost use Rattle.relay_core.specs.State.{looked_at_least, due_in, is_finished, IsLane};
 
 use crate::config::{RelayConfig, first_in};
+use crate::count::is_due;
 use crate::fates::Way;
 use crate::gather::{Due, due_batch, is_roomy, less, no_room};
 use crate::launch::launch;
@@ -239,9 +240,10 @@ impl Lane {
         self.held.due_in()
     }
 
-    /// How many held operations [`Lane::request`] has looked at since the lane was made. A call
-    /// looks at each operation that it sends, and at no more than one per document held, whatever
-    /// it returns. The count saturates at `u64::MAX`. It is not part of the state in the contracts.
+    /// How many held operations [`Lane::request`] and [`Lane::has_batch`] have looked at since the
+    /// lane was made. A request looks at each operation that it sends, and either call at no more
+    /// than one per document held, whatever it returns. The count saturates at `u64::MAX`. It is not
+    /// part of the state in the contracts.
     pub fn looks(&self) -> u64
         ensures { result ≡ self.now.looks }
     {
@@ -370,8 +372,7 @@ impl Lane {
     /// ascending order of version until the batch is closed. They are sent if the batch is full,
     /// ready or flushed, or if the lane is closed; each of them then has one more send and attempt.
     /// `None` if no place in flight is free, or if no batch is to be sent. `AllocError`: allocating
-    /// the batch or its writes failed, and the state is unchanged; a place was free then, and some
-    /// operation may be sent.
+    /// the batch or its writes failed, and the state is unchanged; there is a request to form then.
     ///
     /// It looks at each operation that it sends, and at no more than one per document held: see
     /// [`Lane::looks`].
@@ -385,6 +386,7 @@ impl Lane {
         ensures looks_rise { self.old.looks ≤ self.new.looks }
         ensures looks_sent { IfOk result
             (λ o. OnSome o (looked_at_least self.old ≤ self.new.looks)) }
+        ensures due { OnErr result (is_some (next_batch self.old.state) ≡ true) }
         ensures place { OnErr result
             (length self.old.state.flights.batches < self.old.state.config.in_flight) }
         ensures candidates { OnErr result (0 < length (candidates self.old.state.core)) }
@@ -414,6 +416,24 @@ impl Lane {
         launch(&mut self.held, number, batch.items().len(), &mut writes);
         let _ = self.flight.enter(batch, writes);
         Ok(Some(number))
+    }
+
+    /// Whether [`Lane::request`] has a request to form. The state is unchanged, and it looks at as
+    /// many operations as `request` would. It does not allocate.
+    pub fn has_batch(&mut self) -> bool
+        ensures has { result ≡ is_some (next_batch self.old.state) }
+        ensures unchanged { self.new.state ≡ self.old.state }
+        ensures looks { self.new.looks ≤ looks_after self.old }
+        ensures looks_rise { self.old.looks ≤ self.new.looks }
+    {
+        if is_roomy(self.room) {
+            return false;
+        }
+        if self.flight.flying() >= self.config.in_flight {
+            return false;
+        }
+        let all_closed = self.closed();
+        is_due(&mut self.held, self.mark, all_closed, self.config.limits)
     }
 
     /// Whether the next request is still being gathered: none would be formed now, and more may be

@@ -8,6 +8,7 @@
 #![tactic(auto)]
 
 pub mod config;
+mod count;
 mod fates;
 mod gather;
 pub mod lane;

@@ -205,6 +205,9 @@ fn are_counts(answer: Result<Settled, NotFlying>, counts: &[u32; 4], matched: bo
 
 // Whether the next request is as expected.
 fn sends(desk: &mut Desk, wanted: &[(&str, u64)]) -> Result<bool, Fail> {
+    if !desk.lane.has_batch() {
+        return Ok(false);
+    }
     match desk.lane.request()? {
         Some(number) => {
             let next = desk.last.saturating_add(1);
@@ -218,7 +221,7 @@ fn sends(desk: &mut Desk, wanted: &[(&str, u64)]) -> Result<bool, Fail> {
 fn looks(desk: &mut Desk, step: &Step<'_>) -> Result<bool, Fail> {
     match step {
         Step::Sends(wanted) => sends(desk, *wanted),
-        Step::SendsNone => Ok(desk.lane.request()?.is_none()),
+        Step::SendsNone => Ok(!desk.lane.has_batch() && desk.lane.request()?.is_none()),
         Step::Gathers(wanted) => Ok(desk.lane.is_gathering() == *wanted),
         Step::DueIn(ticks) => Ok(desk.lane.due_in().unwrap_or(99) == *ticks),
         Step::Held(count) => Ok(desk.lane.held() == *count),

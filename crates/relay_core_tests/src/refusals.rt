@@ -1,7 +1,8 @@
 //! Calls of a lane, with any one of their allocations refused (`make refusals`): the refusal
 //! changes nothing, and the call succeeds when it is repeated.
-use crate::desk::CONFIG;
+use crate::desk::{CONFIG, LIMITS};
 use relay_action::{Action, Body, DocKey, Mail, Op};
+use relay_batch::Limits;
 use relay_core::{Lane, RelayConfig, TakeFault};
 use std::alloc::{AllocError, Global};
 
@@ -99,6 +100,7 @@ pub fn sends(lane: &mut Lane) -> bool {
                 && lane.totals() == totals
                 && lane.due_in() == Some(0)
                 && lane.writes(1).is_none()
+                && lane.has_batch()
                 && lane.request() == Ok(Some(1))
         }
     }
@@ -115,6 +117,33 @@ fn is_sent(lane: &Lane) -> bool {
         == *id
         && write.version == version);
     same && writes.len() == 3
+}
+
+/// Batches that are sent after five ticks.
+const LINGERS: RelayConfig = RelayConfig {
+    limits: Limits {
+        linger: 5,
+        ..LIMITS
+    },
+    ..CONFIG
+};
+
+// A lane with an operation that is not to be sent yet.
+fn gathering(alloc: Global) -> Option<Lane> {
+    if !LINGERS.valid() {
+        return None;
+    }
+    let mut lane = Lane::new(alloc, LINGERS).ok()?;
+    let mail = mail_of(alloc, 1, DOCUMENTS[0])?;
+    takes(&mut lane, mail).then_some(lane)
+}
+
+// Without a batch to send there is no request, even if the memory of a batch is refused.
+#[test]
+fn refused_without_a_batch(rt: HostRuntime) {
+    if let Some(mut lane) = gathering(rt.alloc()) {
+        assert!(rt; !lane.has_batch() && lane.request() == Ok(None));
+    }
 }
 
 #[test]

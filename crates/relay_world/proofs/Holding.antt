@@ -1,6 +1,6 @@
 -- What the parts of the world keep.
 use Rattle.std.proofs.Common.{◌≡◌, ℕ, zero, suc, ◌<◌, ◌≤◌, List, [], ◌∷◌, ◌++◌, length, Option, Some, None, Bool, true, false, refl, sym, ap, ◌∙◌, subst, ⊎_elim, arith, append-nil}
-use Rattle.std.specs.Prelude.{slice_get, slice_set, option_map, unwrap_or, nat_lt, nat_le, is_some, OnOk, OnErr, IfOk, Ok, Err, Result, if◌then◌else◌}
+use Rattle.std.specs.Prelude.{slice_get, slice_set, option_map, unwrap_or, nat_lt, nat_le, is_some, not, OnOk, OnErr, IfOk, Ok, Err, Result, if◌then◌else◌}
 use Rattle.relay_action.specs.declared.mail.Mail.{Mail}
 use Rattle.relay_action.specs.declared.mail.Body.{Body}
 use Rattle.relay_action.specs.declared.operation.Op.{Op}
@@ -16,7 +16,7 @@ use Rattle.relay_world.specs.declared.event.Refusal.{Refusal}
 use Rattle.relay_world.specs.declared.event.Refusal.TheVariants as no
 use borrow.Author.Tests.{ltb-false, leb-false}
 use Rattle.relay_world.specs.State.{Desk, Sent, World, desk_at, lane_of, has_closed, is_closed}
-use Rattle.relay_world.specs.Refusals.{cause_if, at_desk, front_refusal, put_refusal, close_refusal, control_refusal, take_refusal, is_full}
+use Rattle.relay_world.specs.Refusals.{cause_if, at_desk, front_refusal, put_refusal, close_refusal, control_refusal, take_refusal, send_refusal, is_full}
 use Rattle.relay_world.specs.Changes.{at_lane, after_post, front_taken, took_front, sent_request, answered_desk, after_mail, after_put, request_of, sent_by}
 use Rattle.relay_world.specs.Memory.{WorksAs, ArePartsOf, IsOpenAt, IsOpenIn, IsThere, Forms, FormsBy, batch_at}
 use Rattle.relay_world.proofs.Places.{either, on_ok, on_ok_two, on_err, on_err_two, set-update, set-same, length-set}
@@ -200,3 +200,10 @@ formed (Ok b) w l d e ss there when made more =
     subst (λ x. FormsBy w l (batch_at x) b (record w { desks = slice_set w.desks l e; sent = ss })) (sym there)
     (formed_by w l d e ss b (lane.next_batch d.lane) refl there when made more)
 formed (Err x) w l d e ss there when made more = when
+
+-- ... and if there is one to form, nothing refuses it
+pub form_due : {A E : Type 0} (r : Result A E) (w : World) (l : ℕ) (d : Desk) → desk_at w l ≡ Some d → OnErr r (is_some (lane.next_batch d.lane) ≡ true) → OnErr r (send_refusal w l ≡ None)
+form_due (Ok x) w l d there due = tt
+form_due (Err e) w l d there due =
+    ap (λ o. at_desk o (λ x. cause_if (not (is_some (lane.next_batch x.lane))) no.NoRequest None)) there
+    ∙ ap (λ b. cause_if (not b) no.NoRequest None) due

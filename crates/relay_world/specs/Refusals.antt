@@ -174,9 +174,3 @@ refusal w (event.Reply request picks) = reply_refusal w request picks
 refusal w (event.Whole request status) = whole_refusal w request status
 refusal w (event.Lost request) = lost_refusal w request
 refusal w (event.Restart epoch) = restart_refusal w epoch
-
--- The refusals that are known before anything is allocated: all but that a lane has no request to send, which shows only once
--- its batch has been gathered.
-abbrev pub early_refusal : World → Event → Option Refusal
-early_refusal w (event.Send l) = at_desk (desk_at w l) (λ d. None)
-early_refusal w other = refusal w other

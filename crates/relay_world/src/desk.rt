@@ -123,7 +123,7 @@ fn form(lane: &mut Lane, alloc: Global) -> Result<Option<Formed>, AllocError>
 }
 
 // Forms the lane's next request, if there is one, and adds it to the sent ones. `AllocError`:
-// allocation failed; nothing changed.
+// allocation failed; there is a request to form, and nothing changed.
 pub(crate) fn send_from(
     desk: &mut Desk,
     sent: &mut Vec<SentRequest>,
@@ -137,7 +137,11 @@ pub(crate) fn send_from(
         ≡ sent.old.items ++ (if b then request_of epoch lane desk.old ∷ [] else [])) }
     ensures same_desk { OnErr result (desk.new ≡ desk.old) }
     ensures same_sent { OnErr result (sent.new.items ≡ sent.old.items) }
+    ensures due { OnErr result (is_some (next_batch desk.old.lane) ≡ true) }
 {
+    if !desk.has_batch() {
+        return Ok(false);
+    }
     sent.reserve(1)?;
     match desk.request(alloc)? {
         None => Ok(false),
@@ -312,6 +316,14 @@ impl Desk {
             self.taken.push_reserved(op);
         }
         Ok(())
+    }
+
+    // Whether the lane has a request to form.
+    pub(crate) fn has_batch(&mut self) -> bool
+        ensures has { result ≡ is_some (next_batch self.old.lane) }
+        ensures unchanged { self.new ≡ self.old }
+    {
+        self.lane.has_batch()
     }
 
     // Forms the lane's next request, if there is one. `AllocError`: allocation failed; nothing

@@ -9,7 +9,7 @@ ghost use Rattle.relay_world.specs.State.{fresh, desk_at, accepted_from, applied
 ghost use Rattle.relay_world.specs.State.{names_at, reports, request_at, is_closed};
 ghost use Rattle.relay_world.specs.State.{is_finished, is_written, AreKeysOf, op_among, op_with};
 ghost use Rattle.relay_world.specs.State.{running, place_dealt, incarnations_of};
-ghost use Rattle.relay_world.specs.Refusals.{is_above, early_refusal};
+ghost use Rattle.relay_world.specs.Refusals.{is_above, refusal};
 ghost use Rattle.relay_world.specs.Changes.{after_restart};
 ghost use Rattle.relay_delivery.specs.Incarnations.{accepted_in};
 ghost use Rattle.relay_world.specs.Steps.{Steps};
@@ -264,8 +264,7 @@ impl Parts {
     pub(crate) fn restart(&mut self, epoch: u32) -> Result<StepAnswer, AllocError>
         ensures ok { IfOk result (λ x. Steps self.old (event.Restart epoch) x self.new) }
         ensures unchanged { OnErr result (self.new ≡ self.old) }
-        ensures early { OnErr result
-            (early_refusal self.old (event.Restart epoch) ≡ None) }
+        ensures no_refusal { OnErr result (refusal self.old (event.Restart epoch) ≡ None) }
     {
         if epoch <= self.config.epoch || epoch > EPOCH_LIMIT {
             return Ok(StepAnswer::Refused(Refusal::NotAbove));

@@ -4,7 +4,7 @@ ghost use Rattle.std.specs.Prelude.{length, IfOk, IfErr, IfSome, OnErr};
 ghost use Rattle.relay_results.specs.Documents.{document_of};
 ghost use Rattle.relay_core.specs.Limits.{is_valid};
 ghost use Rattle.relay_core.specs.Walk.{report_of};
-ghost use Rattle.relay_world.specs.Refusals.{early_refusal};
+ghost use Rattle.relay_world.specs.Refusals.{refusal};
 ghost use Rattle.relay_world.specs.State.{fresh, accepted_from, applied_writes, names_at, reports};
 ghost use Rattle.relay_world.specs.State.{write_at, is_finished, incarnations_of, AreKeysOf};
 ghost use Rattle.relay_delivery.specs.Incarnations.{accepted_in};
@@ -57,7 +57,7 @@ fn play(parts: &mut Parts, event: &Event) -> Result<StepAnswer, AllocError>
     ensures ok { IfOk result (λ x. Steps parts.old event.now x parts.new) }
     ensures unchanged { OnErr result (parts.new ≡ parts.old) }
     ensures memory { OnErr result (may_allocate event.now ≡ true) }
-    ensures early { OnErr result (early_refusal parts.old event.now ≡ None) }
+    ensures no_refusal { OnErr result (refusal parts.old event.now ≡ None) }
 {
     match event {
         Event::Put(producer, key, action) => parts.put(*producer, key, action),
@@ -82,8 +82,8 @@ fn play_all(parts: &mut Parts, events: &[Event]) -> Result<RunEnd, (u64, AllocEr
     ensures unfinished { IfErr result (λ e. e.0 < length events.now) }
     ensures memory { IfErr result
         (λ e. IfSome (slice_get events.now e.0) (λ x. may_allocate x ≡ true)) }
-    ensures early { IfErr result (λ e. IfSome (slice_get events.now e.0)
-        (λ x. early_refusal parts.new x ≡ None)) }
+    ensures no_refusal { IfErr result (λ e. IfSome (slice_get events.now e.0)
+        (λ x. refusal parts.new x ≡ None)) }
 {
     let mut end = RunEnd {
         done: 0,
@@ -117,14 +117,13 @@ impl World {
     /// Plays one event. It is refused exactly if one of its causes applies, with the first that
     /// does, and changes nothing then; otherwise it changes what its rule says, and nothing else.
     /// Before and afterwards, all that was accepted is exactly accounted for. `AllocError`:
-    /// allocation failed; nothing changed, and no cause of a refusal applied, but that a lane may
-    /// have had no request to send. Answering a request as a whole, and losing its reply, does not
-    /// allocate.
+    /// allocation failed; nothing changed, and no cause of a refusal applied. Answering a request as
+    /// a whole, and losing its reply, does not allocate.
     pub fn step(&mut self, event: &Event) -> Result<StepAnswer, AllocError>
         ensures ok { IfOk result (λ x. Steps self.old event.now x self.new) }
         ensures unchanged { OnErr result (self.new ≡ self.old) }
         ensures memory { OnErr result (may_allocate event.now ≡ true) }
-        ensures early { OnErr result (early_refusal self.old event.now ≡ None) }
+        ensures no_refusal { OnErr result (refusal self.old event.now ≡ None) }
         ensures delivered { Delivered self.new }
         ensures closed { StaysClosed self.old self.new }
     {
@@ -133,7 +132,7 @@ impl World {
 
     /// Plays events, continuing after refused ones, and returns how many were accepted and how many
     /// refused. An error has the number of events before the one for which an allocation failed;
-    /// that one changed nothing. Whatever the events and their order, including restarts, all that
+    /// that one changed nothing, and nothing refused it. Whatever the events and their order, including restarts, all that
     /// was accepted is exactly accounted for afterwards; and if the epoch is still the same,
     /// nothing more was accepted from a producer that had closed.
     pub fn run(&mut self, events: &[Event]) -> Result<RunEnd, (u64, AllocError)>
@@ -143,8 +142,8 @@ impl World {
         ensures unfinished { IfErr result (λ e. e.0 < length events.now) }
         ensures memory { IfErr result
             (λ e. IfSome (slice_get events.now e.0) (λ x. may_allocate x ≡ true)) }
-        ensures early { IfErr result (λ e. IfSome (slice_get events.now e.0)
-            (λ x. early_refusal self.new x ≡ None)) }
+        ensures no_refusal { IfErr result (λ e. IfSome (slice_get events.now e.0)
+            (λ x. refusal self.new x ≡ None)) }
         ensures delivered { Delivered self.new }
         ensures closed { StaysClosed self.old self.new }
     {

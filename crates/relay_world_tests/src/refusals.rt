@@ -81,14 +81,15 @@ fn seen(world: &World, key: &DocKey) -> Seen {
     (counts, count_sent(world), world.finished())
 }
 
-// Whether an event gets the expected answer, by a second call if the first was refused and changed
-// nothing.
+// Whether an event gets the expected answer, by a second call if an allocation of the first failed
+// and it changed nothing. One that the world refuses gets its answer by the first call.
 fn steps(world: &mut World, event: &Event, says: Says, key: &DocKey) -> bool {
     let before = seen(world, key);
     match world.step(event) {
         Ok(answer) => is_said(answer, says),
         Err(AllocError) => {
-            seen(world, key) == before
+            !matches!(says, Says::No(_))
+                && seen(world, key) == before
                 && world.step(event).is_ok_and(|answer| is_said(answer, says))
         }
     }

@@ -9,7 +9,7 @@ ghost use Rattle.relay_world.specs.declared.event.Event.TheVariants as event;
 ghost use Rattle.relay_world.specs.State.{desk_at};
 ghost use Rattle.relay_world.specs.Refusals.{entries_from, flies_at};
 ghost use Rattle.relay_world.specs.Refusals.{is_flying};
-ghost use Rattle.relay_world.specs.Refusals.{entry_at, entries, early_refusal};
+ghost use Rattle.relay_world.specs.Refusals.{entry_at, entries, refusal};
 ghost use Rattle.relay_world.specs.Changes.{at_lane};
 ghost use Rattle.relay_world.specs.Changes.{with_answer};
 ghost use Rattle.relay_world.specs.Changes.{answered_desk};
@@ -204,8 +204,7 @@ impl Parts {
         ensures ok { IfOk result
             (λ x. Steps self.old (event.Reply request picks.now) x self.new) }
         ensures unchanged { OnErr result (self.new ≡ self.old) }
-        ensures early { OnErr result
-            (early_refusal self.old (event.Reply request picks.now) ≡ None) }
+        ensures no_refusal { OnErr result (refusal self.old (event.Reply request picks.now) ≡ None) }
     {
         let Some(sent) = self.request(request) else {
             return Ok(StepAnswer::Refused(Refusal::NotSent));

@@ -7,7 +7,7 @@ ghost use Rattle.relay_world.specs.declared.event.Event.TheVariants as event;
 ghost use Rattle.relay_world.specs.State.{lane_of};
 ghost use Rattle.relay_world.specs.Refusals.{put_refusal, close_refusal};
 ghost use Rattle.relay_world.specs.Refusals.{control_refusal};
-ghost use Rattle.relay_world.specs.Refusals.{early_refusal};
+ghost use Rattle.relay_world.specs.Refusals.{refusal};
 ghost use Rattle.relay_world.specs.Changes.{after_put, at_lane, after_post};
 ghost use Rattle.relay_world.specs.Steps.{Steps};
 ghost use Rattle.relay_world.specs.Memory.{IsOpenIn};
@@ -58,8 +58,7 @@ impl Parts {
         ensures ok { IfOk result
             (λ x. Steps self.old (event.Put producer key.now action.now) x self.new) }
         ensures unchanged { OnErr result (self.new ≡ self.old) }
-        ensures early { OnErr result
-            (early_refusal self.old (event.Put producer key.now action.now) ≡ None) }
+        ensures no_refusal { OnErr result (refusal self.old (event.Put producer key.now action.now) ≡ None) }
     {
         let lane = self.lane_of(key);
         if let Some(refusal) = self.put_refusal(producer, lane) {
@@ -120,8 +119,7 @@ impl Parts {
     pub(crate) fn close(&mut self, sender: u32, lane: u32) -> Result<StepAnswer, AllocError>
         ensures ok { IfOk result (λ x. Steps self.old (event.Close sender lane) x self.new) }
         ensures unchanged { OnErr result (self.new ≡ self.old) }
-        ensures early { OnErr result
-            (early_refusal self.old (event.Close sender lane) ≡ None) }
+        ensures no_refusal { OnErr result (refusal self.old (event.Close sender lane) ≡ None) }
     {
         if let Some(refusal) = self.close_refusal(sender, lane) {
             return Ok(StepAnswer::Refused(refusal));
@@ -133,8 +131,7 @@ impl Parts {
     pub(crate) fn tick(&mut self, lane: u32) -> Result<StepAnswer, AllocError>
         ensures ok { IfOk result (λ x. Steps self.old (event.Tick lane) x self.new) }
         ensures unchanged { OnErr result (self.new ≡ self.old) }
-        ensures early { OnErr result
-            (early_refusal self.old (event.Tick lane) ≡ None) }
+        ensures no_refusal { OnErr result (refusal self.old (event.Tick lane) ≡ None) }
     {
         if let Some(refusal) = self.control_refusal(lane) {
             return Ok(StepAnswer::Refused(refusal));
@@ -147,8 +144,7 @@ impl Parts {
     pub(crate) fn flush(&mut self, lane: u32) -> Result<StepAnswer, AllocError>
         ensures ok { IfOk result (λ x. Steps self.old (event.Flush lane) x self.new) }
         ensures unchanged { OnErr result (self.new ≡ self.old) }
-        ensures early { OnErr result
-            (early_refusal self.old (event.Flush lane) ≡ None) }
+        ensures no_refusal { OnErr result (refusal self.old (event.Flush lane) ≡ None) }
     {
         if let Some(refusal) = self.control_refusal(lane) {
             return Ok(StepAnswer::Refused(refusal));

@@ -5,7 +5,7 @@ ghost use Rattle.relay_world.specs.declared.event.Event.TheVariants as event;
 ghost use Rattle.relay_world.specs.State.{item_at};
 ghost use Rattle.relay_world.specs.State.{write_at};
 ghost use Rattle.relay_world.specs.Refusals.{may_choose};
-ghost use Rattle.relay_world.specs.Refusals.{early_refusal};
+ghost use Rattle.relay_world.specs.Refusals.{refusal};
 ghost use Rattle.relay_world.specs.Changes.{RunsItem};
 ghost use Rattle.relay_world.specs.Steps.{Steps};
 ghost use Rattle.relay_world.specs.Memory.{IsItemOf, IsWriteAt};
@@ -71,8 +71,7 @@ impl Parts {
         ensures ok { IfOk result
             (λ x. Steps self.old (event.Run request item choice) x self.new) }
         ensures unchanged { OnErr result (self.new ≡ self.old) }
-        ensures early { OnErr result
-            (early_refusal self.old (event.Run request item choice) ≡ None) }
+        ensures no_refusal { OnErr result (refusal self.old (event.Run request item choice) ≡ None) }
     {
         if self.sent(request, item).is_none() {
             return Ok(StepAnswer::Refused(Refusal::NotSent));

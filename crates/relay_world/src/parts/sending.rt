@@ -3,8 +3,7 @@ ghost use Rattle.std.specs.Prelude.{◌≡◌, ◌-◌, ◌^◌, ◌<◌, None, 
 ghost use Rattle.std.specs.Prelude.{OnOk, OnErr, IfOk};
 ghost use Rattle.std.specs.Prelude.{length};
 ghost use Rattle.relay_world.specs.declared.event.Event.TheVariants as event;
-ghost use Rattle.relay_world.specs.Refusals.{take_refusal};
-ghost use Rattle.relay_world.specs.Refusals.{early_refusal};
+ghost use Rattle.relay_world.specs.Refusals.{refusal, take_refusal, send_refusal};
 ghost use Rattle.relay_world.specs.Changes.{at_lane, took_front};
 ghost use Rattle.relay_world.specs.Steps.{Steps};
 ghost use Rattle.relay_world.specs.Memory.{IsThere};
@@ -38,8 +37,7 @@ impl Parts {
     pub(crate) fn take(&mut self, lane: u32) -> Result<StepAnswer, AllocError>
         ensures ok { IfOk result (λ x. Steps self.old (event.Take lane) x self.new) }
         ensures unchanged { OnErr result (self.new ≡ self.old) }
-        ensures early { OnErr result
-            (early_refusal self.old (event.Take lane) ≡ None) }
+        ensures no_refusal { OnErr result (refusal self.old (event.Take lane) ≡ None) }
     {
         if let Some(refusal) = self.take_refusal(lane) {
             return Ok(StepAnswer::Refused(refusal));
@@ -53,6 +51,7 @@ impl Parts {
         requires { IsThere self.old lane }
         ensures ok { IfOk result (λ b. Forms self.old lane b self.new) }
         ensures unchanged { OnErr result (self.new ≡ self.old) }
+        ensures due { OnErr result (send_refusal self.old lane ≡ None) }
     {
         send_from(
             &mut self.desks[lane as usize],
@@ -73,8 +72,7 @@ impl Parts {
     pub(crate) fn send(&mut self, lane: u32) -> Result<StepAnswer, AllocError>
         ensures ok { IfOk result (λ x. Steps self.old (event.Send lane) x self.new) }
         ensures unchanged { OnErr result (self.new ≡ self.old) }
-        ensures early { OnErr result
-            (early_refusal self.old (event.Send lane) ≡ None) }
+        ensures no_refusal { OnErr result (refusal self.old (event.Send lane) ≡ None) }
     {
         if self.desk(lane).is_none() {
             return Ok(StepAnswer::Refused(Refusal::NoSuch));

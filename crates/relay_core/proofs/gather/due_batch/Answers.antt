@@ -10,14 +10,14 @@ use Rattle.relay_core.proofs.gather.due_batch.Goals as goal
 pub returns-else-is_asked-clause-quiet : goal.returns-else-is_asked-clause-quiet
 returns-else-is_asked-clause-quiet c roomy =
     let is = items_of_kept c.args.held.now.list c.args.held.now.clock c.args.held.now.list in
-    let batch = c.in_ok-batcher.ensures.batch in
+    let batch = c.in-Ok.ensures.batch in
     let items = ap (λ (g : Gathering). g.items) batch in
-    let clock = c.clock.ensures ∙ ap (λ (h : Holding). h.clock) c.in_ok-batcher.ensures.held in
+    let clock = c.clock-2.ensures ∙ ap (λ (h : Holding). h.clock) c.in-Ok.ensures.held in
     let all = c.in-Some.ensures.items ∙ items in
-    quiet_of c.args.held.now.clock c.args.mark c.args.all_closed c.args.limits is c.room-room.result c.ready-is_ready.result c.in_ok-batcher.field-0.closed c.is_flushed.result
+    quiet_of c.args.held.now.clock c.args.mark c.args.all_closed c.args.limits is c.room-room.result c.ready-is_ready.result c.in-Ok.gathered.closed c.is_flushed.result
     (subst (λ (xs : List BatchItem). 0 < length xs) all c.items.ensures.filled)
     (c.room-room.ensures ∙ ap room_of batch)
     (c.ready-is_ready.ensures ∙ (λ i. is_ready (clock i) (batch i)))
-    c.in_ok-batcher.ensures.closed
+    c.in-Ok.ensures.closed
     (c.is_flushed.ensures ∙ ap (is_marked c.args.mark) (c.items.ensures.items ∙ all))
     (sym c.is_asked.ensures ∙ c.if-is_asked.false)

@@ -33,11 +33,12 @@ use Rattle.relay_core.specs.State.{all_closed}
 use Rattle.relay_core.specs.Quiet.{IsQuiet}
 use Rattle.relay_core.specs.Walk.{items_of_kept}
 use Rattle.relay_core.proofs.Reading.{offers_seen}
-use Rattle.relay_core.proofs.Forming.{candidates_of_batch}
-use Rattle.relay_core.proofs.Entering.{front_of, length_launched, batch_now, none_now}
+use Rattle.relay_core.proofs.Forming.{candidates_of_batch, candidates_due}
+use Rattle.relay_core.proofs.Entering.{front_of, length_launched, batch_now, due_now, none_now}
 use Rattle.relay_core.specs.State.{Seen}
 use Rattle.relay_core.specs.State.{looked_at_least}
 use Rattle.relay_core.proofs.Looking.{looked_most}
+use Rattle.relay_core.proofs.Still.{sound_still}
 use Rattle.relay_core.proofs.lane.Lane.request.Goals as goal
 
 err_holds : {A E : Type 0} (r : Result A E) (P : Type 0) → P → OnErr r P
@@ -56,38 +57,19 @@ returns-then-is_roomy-clause-after c =
     let roomy = sym c.is_roomy.ensures ∙ c.if-is_roomy.true in
     ap (after_request c.args.self.now.state) (none_now (state_of i) (writes_in i.flight.requests) i.held.list i.room refl roomy (c.self.invariant.quiet roomy) ∙ ap next_batch (ap (λ (v : Seen). v.state) c.self.view_is))
 
+pub returns-in_err-batch-clause-due : goal.returns-in_err-batch-clause-due
+returns-in_err-batch-clause-due c =
+    let i = c.self.inside in
+    let closed = c.closed-all_closed.ensures ∙ ap all_closed (sym (ap (λ (v : Seen). v.state) c.self.view_is)) in
+    err_holds c.from_residual.result _
+    (sym (due_now (state_of i) (writes_in i.flight.requests) i.held.list c.closed-all_closed.result refl closed (omega (arith, c.flying.ensures, c.if-flying-self.false, length-map i.flight.requests numbered_batch)) ∙ ap (λ (v : Seen). is_some (next_batch v.state)) c.self.view_is) ∙ c.in_err-batch.ensures.due)
+
 pub returns-in_err-batch-clause-candidates : goal.returns-in_err-batch-clause-candidates
 returns-in_err-batch-clause-candidates c =
-    let a = c.self.inside in
-    let n = length-map (candidates (state_of a).core) Rattle.relay_core.specs.Rule.item_of in
-    let m = ap length (offers_seen (state_of a).core (writes_in a.flight.requests) a.held.list refl) in
-    err_holds c.from_residual.result _ (subst (λ (s : State). 0 < length (candidates s.core)) (ap (λ (v : Seen). v.state) c.self.view_is) (let some = c.in_err-batch.ensures.err in omega (arith, some, n, m)))
-
--- what is held is the same, and only the looks and the room differ
-sound_still : (i : Inside) (h : Holding) (room : Room) → h ≡ record i.held { looks = h.looks } → IsSound i
-    → (is_roomy room ≡ true → IsQuiet i.held.clock i.mark (list_all (λ (b : Bool). b) i.closed.items) i.config.limits (items_of_kept i.held.list i.held.clock i.held.list) room)
-    → IsSound (record i { held = h; room = room })
-sound_still i h room same v quiet = subst (λ (x : Holding). IsSound (record i { held = x; room = room })) (sym same) (record {
-  readable = v.readable;
-  under = v.under;
-  flight = v.flight;
-  most = v.most;
-  room = v.room;
-  places = v.places;
-  few = v.few;
-  limit = v.limit;
-  tries = v.tries;
-  senders = v.senders;
-  first = v.first;
-  versions = v.versions;
-  dealt = v.dealt;
-  counted = v.counted;
-  done = v.done;
-  left = v.left;
-  config = v.config;
-  begins = v.begins;
-  quiet = quiet;
-})
+    let i = c.self.inside in
+    let closed = c.closed-all_closed.ensures ∙ ap all_closed (sym (ap (λ (v : Seen). v.state) c.self.view_is)) in
+    err_holds c.from_residual.result _
+    (candidates_due c.args.self.now.state (sym (due_now (state_of i) (writes_in i.flight.requests) i.held.list c.closed-all_closed.result refl closed (omega (arith, c.flying.ensures, c.if-flying-self.false, length-map i.flight.requests numbered_batch)) ∙ ap (λ (v : Seen). is_some (next_batch v.state)) c.self.view_is) ∙ c.in_err-batch.ensures.due))
 
 pub invariant_of-self-in_default : goal.invariant_of-self-in_default
 invariant_of-self-in_default c =
@@ -116,6 +98,13 @@ returns-in_err-writes-clause-candidates c =
     let closed = c.closed-all_closed.ensures ∙ ap all_closed (sym (ap (λ (v : Seen). v.state) c.self.view_is)) in
     let batch = batch_now (state_of i) (writes_in i.flight.requests) i.held.list c.closed-all_closed.result c.in_ok-batch.field-0.batch refl closed (omega (arith, c.flying.ensures, c.if-flying-self.false, length-map i.flight.requests numbered_batch)) c.in_ok-batch.ensures.batch in
     err_holds c.from_residual-in_err-writes.result _ (candidates_of_batch c.args.self.now.state c.in-Some.batch (sym (batch ∙ ap next_batch (ap (λ (v : Seen). v.state) c.self.view_is)) ∙ c.in-Some.is))
+
+pub returns-in_err-writes-clause-due : goal.returns-in_err-writes-clause-due
+returns-in_err-writes-clause-due c =
+    let i = c.self.inside in
+    let closed = c.closed-all_closed.ensures ∙ ap all_closed (sym (ap (λ (v : Seen). v.state) c.self.view_is)) in
+    let batch = batch_now (state_of i) (writes_in i.flight.requests) i.held.list c.closed-all_closed.result c.in_ok-batch.field-0.batch refl closed (omega (arith, c.flying.ensures, c.if-flying-self.false, length-map i.flight.requests numbered_batch)) c.in_ok-batch.ensures.batch in
+    err_holds c.from_residual-in_err-writes.result _ (sym (ap is_some (sym c.in-Some.is ∙ batch ∙ ap next_batch (ap (λ (v : Seen). v.state) c.self.view_is))))
 
 pub launch-requires-clause-count : goal.launch-requires-clause-count
 launch-requires-clause-count c =
