@@ -1,10 +1,10 @@
 """Tests `edits.py` on a small crate: `python3 tests/edits_test.py`, at the top.
 
 Six wrong bodies must be refused in one check, and in none if nothing has changed since. One of them is in an impl block whose bounds
-are nested, and the edit of one names its own function as its law. So must a wrong constant, by the law that its edit names. Beside
-them, these must fail, each by its name: an edit that changes nothing that a contract says, one whose function is refused only because
-it calls an edited one, one that breaks only another function, one that its law does not refuse, one that cannot be read, and one
-whose old text is gone.
+are nested, and the edit of one names its own function as its law. A wrong constant must be refused
+by the law that its edit names. Beside them, these must fail, each by its name: an edit that changes nothing that a contract says, one
+whose function is refused only because it calls an edited one, one that breaks only another function, one that its law does not
+refuse, one that cannot be read, and one whose old text is gone.
 """
 import os
 import re
