@@ -31,11 +31,33 @@ def text_of(path):
         return file.read()
 
 
+def enclosed(text):
+    """Returns what the < with which a text may begin and the > that closes it enclose, and the rest of the text."""
+    depth = 0
+    for at, sign in enumerate(text.replace("->", "  ")):
+        depth += {"<": 1, ">": -1}.get(sign, 0)
+        if depth == 0:
+            return (text[1:at], text[at + 1 :]) if at else ("", text)
+    return "", text
+
+
+def parts_of(text):
+    """Returns the parts of a list that commas divide; those within < and > divide nothing."""
+    parts, depth = [""], 0
+    for sign, shown in zip(text.replace("->", "  "), text):
+        depth += {"<": 1, ">": -1}.get(sign, 0)
+        if sign == "," and depth == 0:
+            parts.append("")
+        else:
+            parts[-1] += shown
+    return [it.strip() for it in parts if it.strip()]
+
+
 def owner_of(header):
     """Returns the name that the prover gives to an impl block: the type, the trait and the trait's concrete arguments."""
-    generics = re.match(r"impl(<(?:[^<>]|<[^<>]*>)*>)?", header)
-    parameters = re.findall(r"[<,]\s*('?\w+)", generics[1] or "")
-    trait, _, named = header[generics.end() :].partition("{")[0].rpartition(" for ")
+    generics, rest = enclosed(header.removeprefix("impl"))
+    parameters = [it.removeprefix("const ").partition(":")[0].strip() for it in parts_of(generics)]
+    trait, _, named = rest.partition("{")[0].rpartition(" for ")
     arguments = [it for it in re.findall(r"[\w']+", trait.partition("<")[2]) if it not in parameters and not it.startswith("'")]
     return re.match(r"\s*(?:\w+::)*(\w+)", named)[1] + "".join(re.findall(r"(\w+)\s*(?:<|$)", trait)[:1] + arguments)
 
@@ -48,8 +70,8 @@ def module_of(path):
 def arguments_of(header):
     """Returns the arguments of the type in the head of an impl block, or the parameters in that of a type."""
     named = header.partition("{")[0].rpartition(" for ")[2] if header.startswith("impl") else header
-    generics = re.match(r"(?:impl(?:<(?:[^<>]|<[^<>]*>)*>)?)?[^<]*<(.*)>", named)
-    return [it for it in re.split(r",\s*(?![^<]*>)", generics[1]) if it] if generics else []
+    named = enclosed(named.removeprefix("impl"))[1] if named.startswith("impl") else named
+    return parts_of(enclosed(named[named.find("<") :])[0]) if "<" in named else []
 
 
 @functools.lru_cache(maxsize=None)
@@ -134,7 +156,8 @@ class Edit:
             text = self.text(path) if path.startswith("src/") else ""
             line = text.count("\n", 0, text.find(old)) + 1 if text.count(old) == 1 else 0
             places.add(next((it for it in functions_of(self.crate, path, text) if it.first <= line <= it.last), None))
-        return places.pop() if len(places) == 1 and not self.law else None
+        place = places.pop() if len(places) == 1 else None
+        return place if place and self.law in (None, place.name) else None
 
     def refused(self, said):
         """Returns true if the prover refuses this function for an error of its own."""

@@ -1,9 +1,10 @@
 """Tests `edits.py` on a small crate: `python3 tests/edits_test.py`, at the top.
 
-Five wrong bodies must be refused in one check, and in none if nothing has changed since; so must a wrong constant, by the law that
-its edit names. Beside them, these must fail, each by its name: an edit that changes nothing that a contract says, one whose function
-is refused only because it calls an edited one, one that breaks only another function, one that its law does not refuse, one that
-cannot be read, and one whose old text is gone.
+Six wrong bodies must be refused in one check, and in none if nothing has changed since. One of them is in an impl block whose bounds
+are nested, and the edit of one names its own function as its law. A wrong constant must be refused
+by the law that its edit names. Beside them, these must fail, each by its name: an edit that changes nothing that a contract says, one
+whose function is refused only because it calls an edited one, one that breaks only another function, one that its law does not
+refuse, one that cannot be read, and one whose old text is gone.
 """
 import os
 import re
@@ -72,6 +73,23 @@ pub fn part(f: u32) -> u32
     f / 2
 }
 
+/// Two values, of which this has one.
+pub struct Pair<T> {
+    first: T,
+}
+
+/// What a type may be marked with.
+pub trait Mark<T> {}
+
+impl<M: Mark<Pair<Pair<u32>>>> Pair<M> {
+    /// Three.
+    pub fn three(&self) -> u32
+        ensures { result ≡ 3 }
+    {
+        3u32
+    }
+}
+
 const MOST: u32 = 10;
 
 /// A law: the constant is ten.
@@ -85,8 +103,9 @@ WRONG = {
     "larger_first": ("if a < b { b } else { a }", "if a < b { a } else { a }"),
     "next_two": ("    n + 1", "    n + 2"),
     "nothing_one": ("0u32", "1u32"),
-    "same_less": ("let copy = e;", "let copy = e / 2;"),
+    "same_less": ("let copy = e;", "let copy = e / 2;\nlaw: same"),
     "smaller_second": ("if c < d { c } else { d }", "if c < d { d } else { d }"),
+    "three_four": ("3u32", "4u32"),
 }
 # An edit that names a law.
 LAW = {"most_eleven": ("u32 = 10;", "u32 = 11;\nlaw: most_is_ten")}
@@ -132,13 +151,13 @@ def main():
     with tempfile.TemporaryDirectory() as folder:
         repository(folder)
         status, said, counts = tried(folder, WRONG)
-        results = [(status, said, counts) == (0, {}, [("5", "1", "5")])]
+        results = [(status, said, counts) == (0, {}, [("6", "1", "6")])]
         status, said, counts = tried(folder, WRONG)
-        results.append((status, said, counts) == (0, {}, [("5", "0", "5")]))
+        results.append((status, said, counts) == (0, {}, [("6", "0", "6")]))
         status, said, counts = tried(folder, {**WRONG, **LAW})
-        results.append((status, said, counts) == (0, {}, [("6", "2", "6")]))
+        results.append((status, said, counts) == (0, {}, [("7", "2", "7")]))
         status, said, counts = tried(folder, {**WRONG, **OTHERS})
-        results.append(status == 1 and said == expected and [it[2] for it in counts] == ["5"])
+        results.append(status == 1 and said == expected and [it[2] for it in counts] == ["6"])
     print("%d passed, %d failed" % (sum(results), len(results) - sum(results)))
     sys.exit(not all(results))
 

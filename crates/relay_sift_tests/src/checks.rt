@@ -1,4 +1,5 @@
 //! Which faults are listed, and what they are about.
+use crate::sifted::{PIECES, input_of, output};
 use relay_action::MemStream;
 use relay_ndjson::{InputFault, LineKind};
 use relay_sift::{Kept, check, subject_kept};
@@ -35,27 +36,29 @@ pub const ROWS: &[Row] = &[
     },
 ];
 
-fn lists(alloc: Global, row: &Row, piece: usize) -> Result<bool, AllocError> {
-    let mut bytes = Vec::new(alloc);
-    bytes.extend_from_slice(row.input.as_bytes())?;
-    let mut reader = MemStream::new(alloc, bytes, 0, piece.max(1), 0)?;
-    let mut out = MemStream::new(alloc, Vec::new(alloc), 65_536, 65_536, 0)?;
-    match check(alloc, &mut reader, Some("books"), &mut out) {
-        Ok(count) => Ok(count == row.count && out.written() == row.listed.as_bytes()),
-        Err(_) => Err(AllocError),
+// Whether this is listed of what is read from this stream.
+fn lists(alloc: Global, row: &Row, reader: &mut MemStream, out: &mut MemStream) -> bool {
+    match check(alloc, reader, Some("books"), out) {
+        Ok(count) => count == row.count && out.written() == row.listed.as_bytes(),
+        Err(_) => false,
     }
+}
+
+fn lists_in(alloc: Global, row: &Row, piece: usize) -> Result<bool, AllocError> {
+    let mut reader = input_of(alloc, row.input, piece)?;
+    Ok(lists(alloc, row, &mut reader, &mut output(alloc)?))
 }
 
 /// Whether this is listed, if the input is read in pieces of this size.
 pub fn agrees(alloc: Global, row: &Row, piece: usize) -> bool {
-    matches!(lists(alloc, row, piece), Ok(true))
+    lists_in(alloc, row, piece) == Ok(true)
 }
 
 #[test]
 fn listed_in_pieces(rt: HostRuntime) {
     for row in ROWS {
-        for piece in [1usize, 7, 1_000] {
-            assert!(rt; agrees(rt.alloc(), row, piece));
+        for piece in PIECES {
+            assert!(rt; agrees(rt.alloc(), row, *piece));
         }
     }
 }
@@ -81,16 +84,19 @@ pub fn says(alloc: Global, lines: u64, line: u64, wanted: &[u8]) -> bool {
 /// What is said beneath it.
 pub const SAID: &[u8] = b"  the member routing is not supported\n";
 
+// How many lines were read, the number of the line with the fault, and what is said beneath it.
+const KEPT: &[(u64, u64, &[u8])] = &[
+    (1, 1, SAID),
+    (1, 0, b""),
+    (3, 2, SAID),
+    (10_000, 10_000, SAID),
+    (10_000, 9_000, SAID),
+    (10_000, 1, b""),
+];
+
 #[test]
 fn lines_that_are_kept(rt: HostRuntime) {
-    for (lines, line, wanted) in [
-        (1u64, 1u64, SAID),
-        (1, 0, b"".as_slice()),
-        (3, 2, SAID),
-        (10_000, 10_000, SAID),
-        (10_000, 9_000, SAID),
-        (10_000, 1, b"".as_slice()),
-    ] {
-        assert!(rt; says(rt.alloc(), lines, line, wanted));
+    for row in KEPT {
+        assert!(rt; says(rt.alloc(), row.0, row.1, row.2));
     }
 }

@@ -28,15 +28,19 @@ fn is_named(alloc: Global, kind: LineKind, wanted: Subject<'_>) -> bool {
     }
 }
 
+// What a fault of each kind names.
+const NAMED: &[(LineKind, Subject<'static>)] = &[
+    (LineKind::UnsupportedField, Subject::Member("routing")),
+    (LineKind::UnsupportedAction, Subject::Action("update")),
+];
+
 #[test]
 fn refused_lines(rt: HostRuntime) {
     assert!(rt; extends(rt.alloc()));
-    let member = Subject::Member("routing");
-    let named = is_named(rt.alloc(), LineKind::UnsupportedField, member);
-    assert!(rt; named || is_named(rt.alloc(), LineKind::UnsupportedField, member));
-    let action = Subject::Action("update");
-    let named = is_named(rt.alloc(), LineKind::UnsupportedAction, action);
-    assert!(rt; named || is_named(rt.alloc(), LineKind::UnsupportedAction, action));
+    for row in NAMED {
+        let named = is_named(rt.alloc(), row.0, row.1);
+        assert!(rt; named || is_named(rt.alloc(), row.0, row.1));
+    }
 }
 
 #[test]

@@ -3,6 +3,8 @@ use relay_action::{ByteIn, MemStream};
 use relay_sift::{SiftNotes, Sifted};
 use std::alloc::{AllocError, Global};
 
+type Sifting = Sifted<MemStream, MemStream>;
+
 /// An input, what is passed on of it, and what is written.
 pub struct Row {
     input: &'static str,
@@ -39,35 +41,54 @@ pub const ROWS: &[Row] = &[
     },
 ];
 
-// What a sifted reader passes on of this input, read in pieces of this size, and what it has written.
-fn sift(alloc: Global, input: &[u8], piece: usize) -> Result<(Vec<u8>, Vec<u8>), AllocError> {
-    let mut bytes = Vec::new(alloc);
-    bytes.extend_from_slice(input)?;
-    let reader = MemStream::new(alloc, bytes, 0, piece.max(1), 0)?;
-    let file = MemStream::new(alloc, Vec::new(alloc), 65_536, 65_536, 0)?;
+/// The sizes of the pieces in which an input is read.
+pub const PIECES: &[usize] = &[1, 7, 1_000];
+
+/// A stream with this input, which is read in pieces of this size.
+pub fn input_of(alloc: Global, input: &str, piece: usize) -> Result<MemStream, AllocError> {
+    MemStream::new(alloc, input.as_bytes().to_vec(alloc)?, 0, piece.max(1), 0)
+}
+
+/// A stream with room for all that is written.
+pub fn output(alloc: Global) -> Result<MemStream, AllocError> {
+    MemStream::new(alloc, Vec::new(alloc), 65_536, 65_536, 0)
+}
+
+// A sifted reader of this stream that writes to this file.
+fn over(alloc: Global, reader: MemStream, file: MemStream) -> Result<Sifting, AllocError> {
     let index = Some(String::from_str(alloc, "books")?);
     let notes = Some(SiftNotes::shared(alloc)?);
-    let mut sifted = Sifted::new(alloc, reader, file, 3, index, notes)?;
-    let mut passed = Vec::new(alloc);
+    Sifted::new(alloc, reader, file, 3, index, notes)
+}
+
+// A sifted reader of this input, read in pieces of this size.
+fn sifted(alloc: Global, input: &str, piece: usize) -> Result<Sifting, AllocError> {
+    let reader = input_of(alloc, input, piece)?;
+    over(alloc, reader, output(alloc)?)
+}
+
+// Whether this is what it passes on.
+fn passes(sifted: &mut Sifting, wanted: &str) -> bool {
+    let mut rest = wanted.as_bytes();
     let mut buffer = [0u8; 16];
     for _ in 0..1_000 {
         match sifted.read(&mut buffer) {
-            Ok(0) => break,
-            Ok(count) => passed.extend_from_slice(&buffer[..count])?,
-            Err(_) => return Err(AllocError),
+            Ok(0) => return rest.is_empty(),
+            Ok(count) => match rest.strip_prefix(&buffer[..count]) {
+                Some(left) => rest = left,
+                None => return false,
+            },
+            Err(_) => return false,
         }
     }
-    let mut written = Vec::new(alloc);
-    written.extend_from_slice(sifted.file().written())?;
-    Ok((passed, written))
+    false
 }
 
 /// Whether this is passed on and written, if the input is read in pieces of this size.
 pub fn agrees(alloc: Global, row: &Row, piece: usize) -> bool {
-    match sift(alloc, row.input.as_bytes(), piece) {
-        Ok((passed, left_out)) => {
-            passed.as_slice() == row.passed.as_bytes()
-                && left_out.as_slice() == row.left_out.as_bytes()
+    match sifted(alloc, row.input, piece) {
+        Ok(mut sifted) => {
+            passes(&mut sifted, row.passed) && sifted.file().written() == row.left_out.as_bytes()
         }
         Err(_) => false,
     }
@@ -76,8 +97,8 @@ pub fn agrees(alloc: Global, row: &Row, piece: usize) -> bool {
 #[test]
 fn rows_in_pieces(rt: HostRuntime) {
     for row in ROWS {
-        for piece in [1usize, 7, 1_000] {
-            assert!(rt; agrees(rt.alloc(), row, piece));
+        for piece in PIECES {
+            assert!(rt; agrees(rt.alloc(), row, *piece));
         }
     }
 }
