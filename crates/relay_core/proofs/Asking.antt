@@ -1,5 +1,5 @@
 -- One candidate after another is asked for.
-use Rattle.std.proofs.Common.{◌≡◌, ◌∙◌, ℕ, ◌+◌, ◌≤◌, ◌∷◌, ⊎_elim, List, Option, Some, None, sym, ap, arith, drop}
+use Rattle.std.proofs.Common.{◌≡◌, ◌∙◌, ℕ, ◌+◌, ◌≤◌, ◌∷◌, ⊎_elim, List, Option, Some, sym, ap, arith, drop}
 use Rattle.std.specs.Prelude.{◌⊎◌, map, min, nat_lt, slice_get, option_map, if◌then◌else◌}
 use Rattle.std.proofs.Common.{inl, inr}
 use Rattle.std.proofs.lemmas.Bool.{ltb-false}

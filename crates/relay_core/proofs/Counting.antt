@@ -1,5 +1,5 @@
 -- A batch that is counted without its items is due exactly if the batch of them is.
-use Rattle.std.proofs.Common.{◌≡◌, ℕ, ◌+◌, ◌≤◌, List, [], ◌∷◌, ◌++◌, length, Bool, true, false, ◌&&◌, ◌||◌, refl, sym, ap, subst, ◌∙◌, ⊎_elim}
+use Rattle.std.proofs.Common.{◌≡◌, ℕ, List, [], ◌∷◌, Bool, true, false, ◌||◌, refl, sym, ap, subst, ◌∙◌, ⊎_elim}
 use Rattle.std.specs.Prelude.{Ok, if◌then◌else◌, map, is_some}
 use Rattle.relay_results.proofs.Lists.{true_or_false}
 use Rattle.relay_batch.specs.declared.item.BatchItem.{BatchItem}
@@ -13,7 +13,7 @@ use Rattle.relay_batch.proofs.Tallying.{tally_more}
 use Rattle.relay_held.specs.declared.kept.Kept.{Kept}
 use Rattle.relay_held.specs.Queues.{Rises}
 use Rattle.relay_core.specs.Counting.{counted_after, closes_count}
-use Rattle.relay_core.specs.Rule.{by_answer, with_item, gathering_after, closes, is_marked, goes, batch_if, batch_of}
+use Rattle.relay_core.specs.Rule.{by_answer, with_item, gathering_after, closes, goes, batch_if, batch_of}
 use Rattle.relay_core.specs.Walk.{item_of_kept}
 use Rattle.relay_core.proofs.Going.{DocsBelow, BelowFirst, docs_free, below_next, answered_open, offer_closed, offer_on}
 

@@ -176,14 +176,6 @@ batch_few s b e =
     let h = length-sub (delivery.candidates s.core) s.core.held (filter_sub (delivery.is_candidate s.core) s.core.held) in
     omega (arith, n, m, c, h)
 
--- without a batch, nothing is sent
-pub unsent : (d : Desk) → false ≡ is_some (lane.next_batch d.lane) → d ≡ sent_request d
-unsent d none = by (lane.next_batch d.lane) none
-  where
-    by : (o : Option (List BatchItem)) → false ≡ is_some o → d ≡ record d { lane = lane.after_request d.lane o }
-    by None e = refl
-    by (Some is) e = absurd (cc)
-
 pub sent_keeps : (d : Desk) → IsDesk d → IsDesk (sent_request d)
 sent_keeps d i = requested_keeps d (lane.next_batch d.lane) i
 

@@ -7,7 +7,7 @@ use Rattle.relay_core.specs.Counting.{counted_after, closes_count}
 use Rattle.relay_core.specs.Walk.{item_of_kept}
 use Rattle.relay_core.proofs.Asking.{asked, looked_one, same_but, items_next, not_closed}
 use Rattle.relay_core.proofs.Counting.{count_closed, count_on}
-use Rattle.relay_core.proofs.Going.{none_left, drop_none}
+use Rattle.relay_core.proofs.Going.{none_left}
 use Rattle.relay_core.proofs.count.count_from.Goals as goal
 
 pub returns-in-Closed-clause-tally : goal.returns-in-Closed-clause-tally

@@ -1,12 +1,10 @@
-use Rattle.std.proofs.Common.{◌≡◌, ◌∙◌, [], sym, ap}
-use Rattle.std.specs.Prelude.{map}
+use Rattle.std.proofs.Common.{◌∙◌, [], ap}
 use Rattle.relay_batch.specs.Gathering.{Gathering}
-use Rattle.relay_batch.specs.Tallies.{tally_of}
 use Rattle.relay_held.specs.Queues.{Holding, candidates_kept, is_candidate_kept}
 use Rattle.relay_held.proofs.Merging.{rises_filter}
 use Rattle.relay_core.specs.Counting.{counted_after, closes_count}
-use Rattle.relay_core.specs.Rule.{gathering_after, closes, goes}
-use Rattle.relay_core.specs.Walk.{item_of_kept, items_of_kept}
+use Rattle.relay_core.specs.Rule.{gathering_after, goes}
+use Rattle.relay_core.specs.Walk.{items_of_kept}
 use Rattle.relay_core.proofs.Counting.{counted_seen, goes_some}
 use Rattle.relay_core.proofs.Entering.{below_none}
 use Rattle.relay_core.proofs.count.is_due.Goals as goal

@@ -1,21 +1,16 @@
-use Rattle.std.proofs.Common.{inl, inr, ◌≡◌, ◌∙◌, ◌+◌, ◌≤◌, ◌∷◌, ⊎_elim, ℕ, List, [], Option, sym, ap, subst, arith, drop, Some}
-use Rattle.std.specs.Prelude.{◌⊎◌, Ok, map, min, nat_lt, slice_get, option_map, if◌then◌else◌}
-use Rattle.std.proofs.lemmas.Bool.{ltb-false}
-use Rattle.relay_results.proofs.Lists.{true_or_false}
-use Rattle.relay_batch.specs.declared.offer.Offer.{Offer}
-use Rattle.relay_batch.specs.declared.offer.Offer.TheVariants.{Busy, Closed, Added}
+use Rattle.std.proofs.Common.{◌≡◌, ◌∙◌, ◌+◌, ◌∷◌, ℕ, List, [], sym, ap, subst, arith, drop}
+use Rattle.std.specs.Prelude.{Ok, map, slice_get, option_map}
+use Rattle.relay_batch.specs.declared.offer.Offer.TheVariants.{Added}
 use Rattle.relay_batch.specs.declared.item.BatchItem.{BatchItem}
 use Rattle.relay_batch.specs.Gathering.{answer_to, after_offer, holds_document}
-use Rattle.relay_held.specs.declared.kept.Candidate.{Candidate}
 use Rattle.relay_held.specs.declared.kept.Kept.{Kept}
 use Rattle.relay_held.specs.Operations.{candidate_of}
-use Rattle.relay_held.specs.Queues.{Holding, candidates_kept, looked}
+use Rattle.relay_held.specs.Queues.{Holding, candidates_kept}
 use Rattle.relay_core.specs.Rule.{gathering_after, closes}
 use Rattle.relay_core.specs.Walk.{item_of_kept}
 use Rattle.relay_core.proofs.Asking.{asked, looked_one, same_but, items_next, not_closed}
 use Rattle.relay_held.specs.Queues.{Rises, is_candidate_kept}
 use Rattle.relay_held.proofs.Merging.{rises_filter}
-use Rattle.relay_batch.specs.declared.tally.Tally.{Tally}
 use Rattle.relay_batch.specs.Tallies.{tally_of}
 use Rattle.relay_core.specs.Counting.{counted_after, closes_count}
 use Rattle.relay_core.specs.Rule.{with_item}

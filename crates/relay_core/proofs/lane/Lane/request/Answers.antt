@@ -10,11 +10,7 @@ use Rattle.relay_flight.proofs.Numbers.{lacks_next, batches_entered}
 use Rattle.relay_core.specs.Walk.{item_of_kept, launched_kept, freight}
 use Rattle.relay_core.specs.State.{State, next_batch, next_entries, after_request}
 use Rattle.relay_core.specs.Memory.{entries, writes_in, flying_of, is_in, Carries, HasRoom, AllUnder, tries_left, IsReadable}
-use Rattle.relay_core.specs.View.{state_of, IsSound}
-use Rattle.relay_core.specs.declared.lane.Lane.TheInside.{Inside}
-use Rattle.relay_batch.specs.declared.item.Room.{Room}
-use Rattle.std.specs.List.{list_all}
-use Rattle.std.proofs.Common.{true}
+use Rattle.relay_core.specs.View.{state_of}
 use Rattle.relay_core.proofs.Launching.{loads, freight_is, kept_sub, loads_seen}
 use Rattle.relay_core.proofs.Launched.{under_launched, rises_launched, all_launched, left_more, carries_new, carries_other, freight_fits, room_new, room_other}
 use Rattle.relay_core.proofs.Batched.{batch_kept, batch_few, all_cap, few_more}
@@ -27,12 +23,10 @@ use Rattle.relay_core.specs.Quiet.{is_roomy}
 use Rattle.std.specs.Prelude.{Result, Ok, Err, OnErr, List, Bool, is_some, IfSome, min, unwrap_or}
 use Rattle.std.proofs.lemmas.List.{length-map}
 use Rattle.relay_batch.specs.declared.item.BatchItem.{BatchItem}
-use Rattle.relay_delivery.specs.Lane.{candidates}
 use Rattle.relay_held.specs.Queues.{Holding, Rises, candidates_kept}
 use Rattle.relay_core.specs.State.{all_closed}
 use Rattle.relay_core.specs.Quiet.{IsQuiet}
 use Rattle.relay_core.specs.Walk.{items_of_kept}
-use Rattle.relay_core.proofs.Reading.{offers_seen}
 use Rattle.relay_core.proofs.Forming.{candidates_of_batch, candidates_due}
 use Rattle.relay_core.proofs.Entering.{front_of, length_launched, batch_now, due_now, none_now}
 use Rattle.relay_core.specs.State.{Seen}
