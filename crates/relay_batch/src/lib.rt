@@ -3,8 +3,9 @@
 //! names of operations.
 //!
 //! What is proved: a batch has distinct documents and is within its limits and the caps of its
-//! items, except that a single item may exceed any of them; and each offer gets exactly the answer
-//! that the limits demand.
+//! items, except that a single item may exceed any of them; each offer gets exactly the answer that
+//! the limits demand; and a tally, which counts items without storing them, answers as the batch of
+//! them would.
 #![tactic(auto)]
 
 pub mod batch;

@@ -91,7 +91,9 @@ impl Tally {
         self.count += 1;
         self.bytes = total;
         self.most = self.most.min(item.cap);
-        self.first = Some(self.first.unwrap_or(item));
+        if self.first.is_none() {
+            self.first = Some(item);
+        }
     }
 
     /// Offers an item, whose document none of those counted may have. Returns the first of

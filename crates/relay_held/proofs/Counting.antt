@@ -1,6 +1,6 @@
 -- As many documents have queues as have held operations, since no queue is empty.
 use Rattle.std.proofs.Common.{◌≡◌, ℕ, ◌+◌, ◌<◌, List, [], ◌∷◌, length, Some, None, Bool, true, false, ◌||◌, refl, sym, ap, ◌∙◌, subst, ⊎_elim, arith}
-use Rattle.std.specs.Prelude.{if◌then◌else◌, cond, not, filter, Result, Ok, Err, IsOk, is_err, OnOk, OnErr}
+use Rattle.std.specs.Prelude.{if◌then◌else◌, cond, not, filter, Result, Ok, Err, IsOk, is_err, OnOk}
 use Rattle.std.specs.List.{IsDistinct, list_any}
 use Rattle.std.specs.Map.{lookup, keys_of}
 use Rattle.relay_action.specs.declared.key.DocKey.{DocKey}
@@ -85,10 +85,6 @@ keys_counted es hs d m a = counted es hs (none_twice es d) m a
 pub on_ok_of : {A E : Type 0} (r : Result A E) (P : Type 0) → IsOk r → OnOk r P → P
 on_ok_of (Ok x) P i p = p
 on_ok_of (Err e) P i p = absurd (cc)
-
-pub on_err_of : {A E : Type 0} (r : Result A E) (P : Type 0) → P → OnErr r P
-on_err_of (Ok x) P p = tt
-on_err_of (Err e) P p = p
 
 pub ok_of : {A E : Type 0} (r : Result A E) (P : Type 0) → is_err r ≡ false → OnOk r P → P
 ok_of (Ok x) P f p = p

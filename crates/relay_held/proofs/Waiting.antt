@@ -316,9 +316,6 @@ pub due_now : (v : Shelf) (n : ℕ) (d : Delays) → IsHeld v n d → due_entrie
 due_now v n d a =
     ap (filter (is_due d.clock)) a.entries ∙ map_due v.slots d.clock (eligible (merge_of v.queues)) ∙ ap (map (entry_of v.slots)) (sym (due_eligible (merge_of v.queues) d.clock))
 
-pub due_count : (v : Shelf) (n : ℕ) (d : Delays) → IsHeld v n d → length (due_entries d) ≡ length (candidates_kept (merge_of v.queues) d.clock)
-due_count v n d a = ap length (due_now v n d a) ∙ length-map (candidates_kept (merge_of v.queues) d.clock) (entry_of v.slots)
-
 pub due_place : (v : Shelf) (n : ℕ) (d : Delays) (at : ℕ) → IsHeld v n d → slice_get (due_entries d) at ≡ option_map (entry_of v.slots) (slice_get (candidates_kept (merge_of v.queues) d.clock) at)
 due_place v n d at a = ap (λ es. slice_get es at) (due_now v n d a) ∙ slice_map (entry_of v.slots) (candidates_kept (merge_of v.queues) d.clock) at
 

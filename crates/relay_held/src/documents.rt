@@ -112,6 +112,7 @@ fn halve_in(
 }
 
 // Adds an operation at the end of the queue in a slot.
+#[inline(always)]
 fn push_in(queues: &mut Slab<Queue>, slot: usize, one: Kept) -> Result<(), NotHeld>
     requires held { 0 < length (queue_in queues.old slot) }
     ensures ok { OnOk result (Sets queues.old queues.new slot
@@ -144,6 +145,7 @@ fn next_in(queues: &mut Slab<Queue>, slot: usize) -> Option<Taken>
 }
 
 // Adds a document with its first operation. There is room for both.
+#[inline(always)]
 fn add(
     slots: &mut IndexMap<DocKey, usize>,
     queues: &mut Slab<Queue>,
@@ -184,6 +186,7 @@ fn reserve_one(
 }
 
 // Adds the document of an operation, of which nothing is held yet.
+#[inline(always)]
 fn push_new(
     slots: &mut IndexMap<DocKey, usize>,
     queues: &mut Slab<Queue>,
@@ -329,6 +332,7 @@ impl Documents {
 
     /// Adds an operation of its document after those that are there, and returns its entry if it is
     /// the first. All allocations come first.
+    #[inline(always)]
     pub(crate) fn push(&mut self, one: Kept) -> Result<Option<Entry>, NotHeld>
         ensures ok { OnOk result (Changes self.old.queues self.new.queues one.key
             (queue_of self.old.queues one.key ++ one ∷ [])) }

@@ -123,7 +123,7 @@ impl Held {
 
     /// Holds one more operation, whose version must be above all others. If an allocation fails,
     /// the operation is returned and nothing has changed.
-    // Not inlined, its result would be moved several times for each operation.
+    // Not inlined, this and what it calls would move an operation several times.
     #[inline(always)]
     pub fn push(&mut self, one: Kept) -> Result<(), NotHeld>
         requires above { AllUnder one.version self.old.list }

@@ -62,6 +62,7 @@ fn halve_one(one: &mut Kept, due: u64, cap: u32, write: Write)
 
 impl Queue {
     /// A queue of one operation. It does not allocate.
+    #[inline(always)]
     pub(crate) fn of(alloc: Global, one: Kept) -> Queue
         ensures { result ≡ one ∷ [] }
     {
@@ -72,6 +73,7 @@ impl Queue {
     }
 
     /// Adds one operation at the end.
+    #[inline(always)]
     pub(crate) fn push(&mut self, one: Kept) -> Result<(), NotHeld>
         ensures ok { OnOk result (self.new ≡ self.old ++ one ∷ []) }
         ensures err { OnErr result (self.new ≡ self.old) }

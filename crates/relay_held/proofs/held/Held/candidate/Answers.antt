@@ -1,11 +1,11 @@
-use Rattle.std.proofs.Common.{◌≡◌, ◌∙◌, ℕ, ◌+◌, ◌<◌, ◌≤◌, sym, ap, subst, length, arith, ⊎_elim}
+use Rattle.std.proofs.Common.{◌≡◌, ◌∙◌, ℕ, ◌+◌, ◌≤◌, sym, ap, arith, ⊎_elim}
 use Rattle.std.specs.Prelude.{min, nat_lt, slice_get, option_map, if◌then◌else◌}
 use Rattle.std.proofs.lemmas.Bool.{ltb-true, ltb-false}
 use Rattle.relay_delay.specs.declared.entry.Entry.{Entry}
 use Rattle.relay_held.specs.Operations.{candidate_of}
 use Rattle.relay_held.specs.Queues.{Holding, candidates_kept, looked, merge_of}
 use Rattle.relay_results.proofs.Lists.{true_or_false}
-use Rattle.relay_held.proofs.Waiting.{due_count, is_due_at, none_due}
+use Rattle.relay_held.proofs.Waiting.{is_due_at, none_due}
 use Rattle.relay_held.proofs.held.Held.candidate.Goals as goal
 
 pub returns-in_err-entry-clause-found : goal.returns-in_err-entry-clause-found
