@@ -43,6 +43,20 @@ pub struct DurationOption {
     pub range: &'static str,
 }
 
+/// The address of the index.
+pub const TO: TextOption = TextOption {
+    name: "to",
+    value: "ADDR",
+    help: "The address of the index, HOST:PORT, 1 to 255 visible ASCII characters; `http://` before it is dropped",
+};
+
+/// What is said of an address that cannot be the host of a request.
+pub const NO_HOST: &str = "error: --to ADDR has to be 1 to 255 visible ASCII characters";
+
+/// What is said of a counter that is no document.
+pub const NO_COUNTER: &str =
+    "error: --epoch-from INDEX/ID has to name an index, 1 to 255 bytes, and after a slash an id, 1 to 512 bytes";
+
 impl TextOption {
     pub fn arg<'a>(&self, alloc: Global) -> Arg<'a> {
         Arg::new(alloc, self.name)

@@ -25,8 +25,9 @@ pub enum Direction {
 
 /// A connection on which a whole message has to be read, or written, within a number of seconds.
 /// The time starts with the first read after a write, and with the first write after a read. So a
-/// peer that sends a byte now and then does not hold it for longer. If the clock cannot be read,
-/// only each call is limited, as the connection itself is.
+/// peer that sends a byte now and then does not hold it for longer; but a call that was made in time
+/// may wait for a twentieth of the limit longer. If the clock cannot be read, only each call is
+/// limited, as the connection itself is.
 ///
 /// Contracts see the limit, the direction of the message and when it began, the time, whether a
 /// call that failed was late, and how many calls failed; the count saturates at 2^64 - 1.

@@ -1,12 +1,10 @@
 //! The epoch of a server.
 use relay_action::DocKey;
+use relay_core::config::EPOCH_LIMIT;
 use relay_words::{add_number, number_of};
 use std::alloc::Global;
 use std::fs::{File, OpenOptions, TryLockError};
 use std::io::{Read, Seek, SeekFrom, Write};
-
-/// The last epoch.
-pub const LAST_EPOCH: u32 = 4_194_303;
 
 /// Where a server's epoch comes from.
 #[derive(Drop)]
@@ -54,7 +52,7 @@ fn epoch_in(text: &str) -> Option<u32> {
         return Some(0);
     }
     match number_of(text) {
-        Some(epoch) if epoch <= u64::from(LAST_EPOCH) => u32::try_from(epoch).ok(),
+        Some(epoch) if epoch <= u64::from(EPOCH_LIMIT) => u32::try_from(epoch).ok(),
         _ => None,
     }
 }
@@ -108,7 +106,7 @@ pub fn next_epoch(host: &HostRuntime, alloc: Global, path: &str) -> Result<(u32,
         Err(TryLockError::Error(_)) => return Err(FileFault::Device),
     }
     let old = read_epoch(&mut file)?;
-    if old >= LAST_EPOCH {
+    if old >= EPOCH_LIMIT {
         return Err(FileFault::Spent);
     }
     write_epoch(alloc, &mut file, old + 1)?;

@@ -1,5 +1,7 @@
 //! `relay run`.
-use crate::options::{DurationOption, FlagOption, NumberOption, TextOption, counter_of};
+use crate::options::{
+    DurationOption, FlagOption, NO_COUNTER, NO_HOST, NumberOption, TO, TextOption, counter_of,
+};
 use crate::report::{out_of_memory, usage};
 use clap::{Arg, ArgAction, ArgMatches, Command};
 use relay_action::StdStream;
@@ -127,12 +129,6 @@ After a crash run the same files again, in the next epoch. A request of the old 
 applied before the new writes of its document, or not at all. If the old process is still sending, its writes
 of a document are refused once the new run has written that document, and are applied elsewhere; the order of
 the writes is kept, but its count of operations already applied may be wrong.";
-
-const TO: TextOption = TextOption {
-    name: "to",
-    value: "ADDR",
-    help: "The address of the index, HOST:PORT, 1 to 255 visible ASCII characters; `http://` before it is dropped",
-};
 
 const INDEX: TextOption = TextOption {
     name: "index",
@@ -445,12 +441,7 @@ where
     match counter_of(rt.alloc(), matches, &COUNTER) {
         Ok(None) => {}
         Ok(Some(Some(counter))) => options.epoch_from = Some(counter),
-        Ok(Some(None)) => {
-            return usage(
-                rt,
-                "error: --epoch-from INDEX/ID has to name an index, 1 to 255 bytes, and after a slash an id, 1 to 512 bytes",
-            );
-        }
+        Ok(Some(None)) => return usage(rt, NO_COUNTER),
         Err(_) => return out_of_memory(rt),
     }
     match log_of(matches) {
@@ -458,10 +449,7 @@ where
         None => return usage(rt, "error: --log WHAT has to be errors, events or none"),
     }
     if !options.is_valid() {
-        return usage(
-            rt,
-            "error: --to ADDR has to be 1 to 255 visible ASCII characters",
-        );
+        return usage(rt, NO_HOST);
     }
     if !options.reads_input_once() {
         return usage(

@@ -1,5 +1,7 @@
 //! `relay serve`.
-use crate::options::{DurationOption, NumberOption, TextOption, counter_of};
+use crate::options::{
+    DurationOption, NO_COUNTER, NO_HOST, NumberOption, TO, TextOption, counter_of,
+};
 use crate::report::{out_of_memory, usage};
 use crate::subcommand::run::address_fault;
 use clap::builder::ValueParser;
@@ -64,12 +66,6 @@ const LISTEN: TextOption = TextOption {
     name: "listen",
     value: "ADDR",
     help: "Where to listen, HOST:PORT: an address or a name of this machine, and a port",
-};
-
-const TO: TextOption = TextOption {
-    name: "to",
-    value: "ADDR",
-    help: "The address of the index, HOST:PORT, 1 to 255 visible ASCII characters; `http://` before it is dropped",
 };
 
 const INDEX: TextOption = TextOption {
@@ -235,9 +231,6 @@ fn durations_of<R: Eprint>(rt: &R, matches: &ArgMatches<'_>) -> Result<Durations
 const NO_EPOCH: &str =
     "error: one of --epoch-from INDEX/ID, --epoch-file PATH and --epoch N is needed";
 
-const NO_COUNTER: &str =
-    "error: --epoch-from INDEX/ID has to name an index, 1 to 255 bytes, and after a slash an id, 1 to 512 bytes";
-
 const NO_FACE: &str = "error: --face FACE has to be `compatible` or `opensearch`";
 
 fn counter<R: Eprint>(rt: &R, counter: Option<DocKey>) -> Result<EpochSource, Exit> {
@@ -332,10 +325,7 @@ where
         return out_of_memory(rt);
     };
     if !options.is_valid() {
-        return usage(
-            rt,
-            "error: --to ADDR has to be 1 to 255 visible ASCII characters",
-        );
+        return usage(rt, NO_HOST);
     }
     let mut out = StdStream::new(io::writer(rt));
     let mut err = StdStream::new(host.stderr());
