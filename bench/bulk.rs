@@ -1,17 +1,26 @@
-// The two ends that every relay is measured with, in plain Rust. `bulk serve NANOSECONDS [MOST [MICROSECONDS]]` is an index
-// that answers each bulk request with success, after NANOSECONDS per operation and MICROSECONDS per request, or with 413 if
-// its body has more than MOST bytes. `bulk ready PORT FILE..` sends requests that were prepared in files, with one
-// connection per file, and reads each reply to its end. `bulk single PORT COUNT` sends COUNT requests of one write, one after
-// another, and prints the median of the times until the reply has come.
+// The two ends that every relay is measured with, in plain Rust. `bulk serve NANOSECONDS [MOST [MICROSECONDS [THREADS]]]` is an
+// index that answers each bulk request, and each PUT of a document, with success, after NANOSECONDS per operation and
+// MICROSECONDS per request, or with 413 if its body has more than MOST bytes. It runs THREADS requests at a time, first come,
+// first served; without THREADS, or with 0, it runs those of all connections at once. `bulk ready PORT FILE..` sends requests
+// that were prepared in files, with one connection per file, and reads each reply to its end. `bulk single PORT COUNT` sends
+// COUNT requests of one write, one after another, and prints the median of the times until the reply has come. `bulk clients
+// PORT CLIENTS SECONDS` does so from CLIENTS connections for SECONDS, with a PUT of a document for each write, and prints how
+// many writes there were, and of those that count how many a second, and the median and the 99th percentile of their times.
 use std::fs::File;
 use std::io::{self, BufRead, BufReader, Write};
 use std::net::{TcpListener, TcpStream};
 use std::sync::atomic::{AtomicU64, Ordering};
+use std::sync::mpsc::{channel, Sender};
+use std::sync::{Arc, Mutex};
 use std::thread;
 use std::time::{Duration, Instant};
 
 // How many operations were answered, over all connections.
 static ANSWERED: AtomicU64 = AtomicU64::new(0);
+// How long a reply is waited for.
+const PATIENCE: Duration = Duration::from_secs(60);
+// For how long `clients` writes before its writes count.
+const WARMING: Duration = Duration::from_millis(300);
 
 // The length of the body, if this line of a head states it.
 fn length_of(line: &[u8]) -> Option<usize> {
@@ -88,6 +97,16 @@ fn answer(mut body: &[u8], line: &mut Vec<u8>, reply: &mut Vec<u8>) -> io::Resul
     Ok(count)
 }
 
+// Writes the reply of an index that has stored the document that the request line of a PUT names.
+fn store(request: &[u8], reply: &mut Vec<u8>) {
+    let target = request.split(|byte| *byte == b' ').nth(1).expect("a target");
+    let id = target.rsplit(|byte| *byte == b'/').next().expect("an id");
+    reply.clear();
+    for part in [b"{\"_index\":\"books\",\"_id\":\"", id, b"\",\"_version\":1,\"result\":\"created\",\"_shards\":{\"total\":2,\"successful\":1,\"failed\":0},\"_seq_no\":0,\"_primary_term\":1}"] {
+        reply.extend_from_slice(part);
+    }
+}
+
 // The answer to a GET: the version, which a client asks for first, and how many operations were answered so far.
 fn about(reply: &mut Vec<u8>) -> io::Result<()> {
     reply.clear();
@@ -122,12 +141,38 @@ impl Debt {
     }
 }
 
-fn serve_connection(stream: TcpStream, pace: Pace, most: usize) -> io::Result<()> {
+// A request that waits for a thread: how long it takes, in nanoseconds, and who is told that it has been run.
+struct Job {
+    nanoseconds: u64,
+    done: Sender<()>,
+}
+
+// Starts the threads of an index that runs so many requests at a time, and returns where requests wait for them, in order.
+fn start_pool(threads: u64) -> Sender<Job> {
+    let (waiting, next) = channel::<Job>();
+    let next = Arc::new(Mutex::new(next));
+    for _ in 0..threads {
+        let next = next.clone();
+        thread::spawn(move || {
+            let mut debt = Debt::default();
+            loop {
+                let taken = next.lock().expect("the lock").recv();
+                let Ok(job) = taken else { return };
+                debt.pay(job.nanoseconds, Instant::now());
+                let _ = job.done.send(());
+            }
+        });
+    }
+    waiting
+}
+
+fn serve_connection(stream: TcpStream, pace: Pace, most: usize, pool: Option<Sender<Job>>) -> io::Result<()> {
     stream.set_nodelay(true)?;
     let mut input = BufReader::with_capacity(262_144, stream.try_clone()?);
     let mut output = stream;
     let (mut message, mut line, mut reply) = (Vec::new(), Vec::new(), Vec::new());
     let mut debt = Debt::default();
+    let (done, finished) = channel();
     while let Some(head) = read_message(&mut input, &mut message)? {
         let start = Instant::now();
         let mut status = "200 OK";
@@ -137,8 +182,21 @@ fn serve_connection(stream: TcpStream, pace: Pace, most: usize) -> io::Result<()
             status = "413 Content Too Large";
             reply.clear();
         } else {
-            let count = answer(&message[head..], &mut line, &mut reply)?;
-            debt.pay(count * pace.nanoseconds + pace.microseconds * 1000, start);
+            let count = if message.starts_with(b"PUT ") {
+                status = "201 Created";
+                store(&message[..head], &mut reply);
+                1
+            } else {
+                answer(&message[head..], &mut line, &mut reply)?
+            };
+            let nanoseconds = count * pace.nanoseconds + pace.microseconds * 1000;
+            if let Some(pool) = &pool {
+                let job = Job { nanoseconds, done: done.clone() };
+                pool.send(job).expect("a thread that takes it");
+                finished.recv().expect("its end");
+            } else {
+                debt.pay(nanoseconds, start);
+            }
             ANSWERED.fetch_add(count, Ordering::SeqCst);
         }
         let mut text = format!("HTTP/1.1 {status}\r\nX-Elastic-Product: Elasticsearch\r\nContent-Type: application/json\r\nContent-Length: {}\r\n\r\n", reply.len()).into_bytes();
@@ -149,27 +207,48 @@ fn serve_connection(stream: TcpStream, pace: Pace, most: usize) -> io::Result<()
 }
 
 // Serves until it is stopped. The one line that it prints is its port.
-fn serve(pace: Pace, most: usize) -> io::Result<()> {
+fn serve(pace: Pace, most: usize, threads: u64) -> io::Result<()> {
+    let pool = (threads > 0).then(|| start_pool(threads));
     let listener = TcpListener::bind("127.0.0.1:0")?;
     println!("{}", listener.local_addr()?.port());
     for stream in listener.incoming() {
-        let stream = stream?;
-        thread::spawn(move || serve_connection(stream, pace, most));
+        let (stream, pool) = (stream?, pool.clone());
+        thread::spawn(move || serve_connection(stream, pace, most, pool));
     }
     Ok(())
+}
+
+// A connection that is kept, and the last reply on it.
+struct Connection {
+    output: TcpStream,
+    input: BufReader<TcpStream>,
+    reply: Vec<u8>,
+}
+
+impl Connection {
+    fn open(port: &str) -> io::Result<Self> {
+        let output = TcpStream::connect(format!("127.0.0.1:{port}"))?;
+        output.set_nodelay(true)?;
+        output.set_read_timeout(Some(PATIENCE))?;
+        let input = BufReader::with_capacity(262_144, output.try_clone()?);
+        Ok(Connection { output, input, reply: Vec::new() })
+    }
+
+    // Sends a request and waits for the reply. Returns where its body begins.
+    fn ask(&mut self, request: &[u8]) -> io::Result<usize> {
+        self.output.write_all(request)?;
+        Ok(read_message(&mut self.input, &mut self.reply)?.expect("a reply"))
+    }
 }
 
 // Sends the requests of a file, and returns how many bytes the bodies of the replies had.
 fn send_file(port: &str, path: &str) -> io::Result<usize> {
     let mut file = BufReader::with_capacity(262_144, File::open(path)?);
-    let mut output = TcpStream::connect(format!("127.0.0.1:{port}"))?;
-    output.set_nodelay(true)?;
-    let mut input = BufReader::with_capacity(262_144, output.try_clone()?);
-    let (mut request, mut reply, mut bytes) = (Vec::new(), Vec::new(), 0);
+    let mut connection = Connection::open(port)?;
+    let (mut request, mut bytes) = (Vec::new(), 0);
     while read_message(&mut file, &mut request)?.is_some() {
-        output.write_all(&request)?;
-        let head = read_message(&mut input, &mut reply)?.expect("a reply");
-        bytes += reply.len() - head;
+        let head = connection.ask(&request)?;
+        bytes += connection.reply.len() - head;
     }
     Ok(bytes)
 }
@@ -192,18 +271,15 @@ fn ready(port: &str, paths: &[String]) -> io::Result<()> {
 
 // Sends requests of one write, each once the reply to the one before has come.
 fn single(port: &str, count: usize) -> io::Result<()> {
-    let mut output = TcpStream::connect(format!("127.0.0.1:{port}"))?;
-    output.set_nodelay(true)?;
-    let mut input = BufReader::with_capacity(262_144, output.try_clone()?);
-    let (mut reply, mut times) = (Vec::new(), Vec::with_capacity(count));
+    let mut connection = Connection::open(port)?;
+    let mut times = Vec::with_capacity(count);
     for number in 0..count {
         let body = format!("{{\"index\":{{\"_index\":\"books\",\"_id\":\"{}\"}}}}\n{{\"title\":\"{number}\"}}\n", number % 1000);
         let request = format!("POST /_bulk HTTP/1.1\r\nHost: 127.0.0.1\r\nContent-Type: application/x-ndjson\r\nContent-Length: {}\r\n\r\n{body}", body.len());
         let start = Instant::now();
-        output.write_all(request.as_bytes())?;
-        let head = read_message(&mut input, &mut reply)?.expect("a reply");
+        let head = connection.ask(request.as_bytes())?;
         times.push(start.elapsed().as_nanos());
-        let text = std::str::from_utf8(&reply[head..]).expect("a text");
+        let text = std::str::from_utf8(&connection.reply[head..]).expect("a text");
         assert!(text.contains("\"errors\":false"), "{text}");
     }
     times.sort_unstable();
@@ -211,19 +287,66 @@ fn single(port: &str, count: usize) -> io::Result<()> {
     Ok(())
 }
 
+// Writes one document after another, each once the reply to the one before has come. Returns how many writes there were until
+// `end`, and the nanoseconds of each that began at `begin` or later.
+fn write_until(mut connection: Connection, client: usize, begin: Instant, end: Instant) -> io::Result<(u64, Vec<u128>)> {
+    let (mut count, mut times) = (0, Vec::new());
+    loop {
+        let body = format!("{{\"title\":\"{count}\"}}");
+        let request = format!("PUT /books/_doc/{client}-{} HTTP/1.1\r\nHost: 127.0.0.1\r\nContent-Type: application/json\r\nContent-Length: {}\r\n\r\n{body}", count % 1000, body.len());
+        let start = Instant::now();
+        if start >= end {
+            return Ok((count, times));
+        }
+        connection.ask(request.as_bytes())?;
+        if start >= begin {
+            times.push(start.elapsed().as_nanos());
+        }
+        let head = String::from_utf8_lossy(&connection.reply);
+        assert!(head.starts_with("HTTP/1.1 200 ") || head.starts_with("HTTP/1.1 201 "), "{head}");
+        count += 1;
+    }
+}
+
+// Writes from so many connections at once, for the time that does not count yet and then for so long.
+fn clients(port: &str, count: usize, time: Duration) -> io::Result<()> {
+    let connections = (0..count).map(|_| Connection::open(port)).collect::<io::Result<Vec<_>>>()?;
+    let begin = Instant::now() + WARMING;
+    let threads: Vec<_> = connections
+        .into_iter()
+        .enumerate()
+        .map(|(client, connection)| thread::spawn(move || write_until(connection, client, begin, begin + time)))
+        .collect();
+    let (mut writes, mut times) = (0, Vec::new());
+    for thread in threads {
+        let (own, its) = thread.join().expect("a thread that ended")?;
+        writes += own;
+        times.extend(its);
+    }
+    times.sort_unstable();
+    let rate = times.len() as f64 / time.as_secs_f64();
+    let [median, late] = [50, 99].map(|part| times[times.len() * part / 100] as f64 / 1000.0);
+    println!("{writes} writes, {rate:.1} a second, median {median:.1} us, p99 {late:.1} us");
+    Ok(())
+}
+
 fn main() -> io::Result<()> {
     let words: Vec<String> = std::env::args().skip(1).collect();
     match words.split_first().map(|(command, rest)| (command.as_str(), rest)) {
-        Some(("serve", [nanoseconds, more @ ..])) if more.len() <= 2 => {
+        Some(("serve", [nanoseconds, more @ ..])) if more.len() <= 3 => {
             let number = |at: usize, default: u64| more.get(at).map_or(default, |word| word.parse().expect("a number"));
             let pace = Pace {
                 nanoseconds: nanoseconds.parse().expect("nanoseconds"),
                 microseconds: number(1, 0),
             };
-            serve(pace, number(0, u64::MAX) as usize)
+            serve(pace, number(0, u64::MAX) as usize, number(2, 0))
         }
         Some(("ready", [port, paths @ ..])) => ready(port, paths),
         Some(("single", [port, count])) => single(port, count.parse().expect("a number")),
-        _ => panic!("usage: bulk serve NANOSECONDS [MOST [MICROSECONDS]], bulk ready PORT FILE.., bulk single PORT COUNT"),
+        Some(("clients", [port, count, seconds])) => {
+            let time = Duration::from_secs_f64(seconds.parse().expect("seconds"));
+            clients(port, count.parse().expect("a number"), time)
+        }
+        _ => panic!("usage: bulk serve NANOSECONDS [MOST [MICROSECONDS [THREADS]]], bulk ready PORT FILE.., bulk single PORT COUNT, bulk clients PORT CLIENTS SECONDS"),
     }
 }

@@ -141,10 +141,19 @@ def summary(rows):
 # ---- the figures
 
 
+# A plot's style: what each plot has, with the plot's own, by light and by dark.
 STYLE = """text { font: 13px sans-serif; fill: #1f2328 } .grid { stroke: #d1d9e0 } .mark { font-weight: bold }
-.lost { fill: #cf222e } .twice { fill: #bc4c00 } .disorder { fill: #bf8700 } .wrong { fill: #8250df } .false { fill: #57606a }
-@media (prefers-color-scheme: dark) { text { fill: #e6edf3 } .grid { stroke: #3d444d } .false { fill: #9198a1 } }"""
+%s
+@media (prefers-color-scheme: dark) { text { fill: #e6edf3 } .grid { stroke: #3d444d } %s }"""
+LIGHT = ".lost { fill: #cf222e } .twice { fill: #bc4c00 } .disorder { fill: #bf8700 } .wrong { fill: #8250df } .false { fill: #57606a }"
+DARK = ".false { fill: #9198a1 }"
 LABELS = {"lost": "lost silently", "twice": "applied twice", "disorder": "out of order", "wrong": "documents that end wrong", "false": "reported, though applied"}
+
+
+def plot(label, high, light, dark, parts):
+    """Returns a plot of these parts, with what it shows in words, its height, and its own styles."""
+    parts = ["<style>%s</style>" % (STYLE % (light, dark)), *parts]
+    return '<svg xmlns="http://www.w3.org/2000/svg" viewBox="0 0 780 %d" role="img" aria-label="%s">%s</svg>\n' % (high, label, "\n".join(parts))
 
 
 def drawn(rows):
@@ -153,7 +162,7 @@ def drawn(rows):
     sums = {name: {count: sum(getattr(row, count) for row in of.values()) for count in COUNTS} for name, of in rows.items()}
     most = max(sum(it.values()) for it in sums.values()) or 1
     bottom = 46 + step * len(sums)
-    parts = ["<style>%s</style>" % STYLE]
+    parts = []
     x = 8.0
     for count in COUNTS:
         parts.append('<rect class="%s" x="%.0f" y="8" width="12" height="12"/><text x="%.0f" y="19">%s</text>' % (count, x, x + 18, LABELS[count]))
@@ -168,7 +177,7 @@ def drawn(rows):
             x += width
         parts.append('<text class="mark" x="%.1f" y="%d">%d</text>' % (x + 6, y + 14, sum(of.values())))
     parts.append('<line class="grid" x1="%d" y1="34" x2="%d" y2="%d"/>' % (left, left, bottom))
-    return '<svg xmlns="http://www.w3.org/2000/svg" viewBox="0 0 780 %d" role="img" aria-label="What went wrong, by program">%s</svg>\n' % (bottom + 6, "\n".join(parts))
+    return plot("What went wrong, by program", bottom + 6, LIGHT, DARK, parts)
 
 
 def versions():
@@ -185,15 +194,20 @@ def replace(text, lines):
     return head + begin + "\n".join(lines) + "\n" + end + rest.partition(end)[2]
 
 
-def leave(rows):
-    with open(os.path.join(TOP, "docs", "compare.svg"), "w") as file:
-        file.write(drawn(rows))
+def rewrite(name, drawing, change):
+    """Writes a plot in docs, and changes the text of README.md."""
+    with open(os.path.join(TOP, "docs", name), "w") as file:
+        file.write(drawing)
     place = os.path.join(TOP, "README.md")
     with open(place, encoding="utf-8") as file:
         text = file.read()
-    source = "Sums over %d runs of %d writes, one for each of no fault, refused items, lost replies, dropped connections, both, and 413; the speed is without a fault. Measured on %s by `make compare`; %s." % (len(FAULTS), WRITES, datetime.date.today(), versions())
     with open(place, "w", encoding="utf-8") as file:
-        file.write(replace(text, [*summary(rows), "", source]))
+        file.write(change(text))
+
+
+def leave(rows):
+    source = "Sums over %d runs of %d writes, one for each of no fault, refused items, lost replies, dropped connections, both, and 413; the speed is without a fault. Measured on %s by `make compare`; %s." % (len(FAULTS), WRITES, datetime.date.today(), versions())
+    rewrite("compare.svg", drawn(rows), lambda text: replace(text, [*summary(rows), "", source]))
 
 
 def main():

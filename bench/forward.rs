@@ -1,7 +1,7 @@
-// `relay run` as a good programmer would write it in plain Rust in an afternoon. `forward PORT FILE..` has two threads per
-// file: one reads and parses it, and one sends requests of 500 operations with increasing external versions over its own
-// connection, and reads the replies. An item that gets 429 or 503 is sent again, and so is a request whose reply is lost,
-// before any later one; what cannot be settled is printed.
+// `relay run` as a good programmer would write it in plain Rust in an afternoon, without its promise: a document that is in two
+// files is written in no particular order. `forward PORT FILE..` has two threads per file: one reads and parses it, and one sends
+// requests of 500 operations with increasing external versions over its own connection, and reads the replies. An item that gets
+// 429 or 503 is sent again, and so is a request whose reply is lost, before any later one; what cannot be settled is printed.
 use std::fs::File;
 use std::io::{self, BufRead, BufReader, Read, Write};
 use std::net::TcpStream;

@@ -1,7 +1,7 @@
 """Compares the project's programs with others, all in one run. Only the ratios count.
 
 `python3 bench/run.py [PART..]` measures the named parts, or all of them: lines, pick, apply, queue, tell, replies, lane,
-http, world, run, serve. `--operations N` sets the number of operations of `run`, 50,000 by default.
+http, world, run, serve, latency. `--operations N` sets the number of operations of `run`, 50,000 by default.
 """
 import argparse
 import os
@@ -11,6 +11,7 @@ import tempfile
 import apply_bench
 import http_bench
 import lane_bench
+import latency
 import lines_bench
 import pick_bench
 import queue_bench
@@ -37,6 +38,7 @@ PARTS = [
     ("world", RELAY, "`make build`", world_bench.measure),
     ("run", RELAY, "`make build`", run_bench.measure),
     ("serve", RELAY, "`make build`", serve_bench.measure),
+    ("latency", RELAY, "`make build`", latency.measure),
 ]
 
 

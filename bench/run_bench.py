@@ -1,5 +1,6 @@
-"""Measures `relay run` against a plain Rust server that answers every bulk request with success, next to a relay in plain
-Rust, Python's `streaming_bulk`, and the floor: prepared requests, sent by plain Rust."""
+"""Measures `relay run` against a plain Rust server that answers every bulk request with success, next to two relays in plain
+Rust, one that keeps the order of each document and one that does not, Python's `streaming_bulk`, and the floor: prepared
+requests, sent by plain Rust."""
 import contextlib
 import http.client
 import json
@@ -19,17 +20,21 @@ SIZES = (100, 1000)
 # The number of files and of lanes.
 SHAPES = ((1, 1), (4, 4))
 COUNT = 500
-# The capacity of a lane's queue: two batches, which is what the plain Rust relay's channel has room for per file.
+# The capacity of a lane's queue: two batches, which is what the channels of the plain Rust relays have room for.
 CAPACITY = 2 * COUNT
 # The nanoseconds that the server takes for each operation, and how the output describes that server.
 SERVERS = ((0, "that responds immediately"), (4000, "that takes 4 microseconds per operation"))
+# The plain Rust relay that does the same work, and the one that keeps no order over files.
+ORDERED, FORWARD = "plain Rust, ordered", "plain Rust"
 # The goals: the maximum ratio of the time of `relay run` to that of each other program, with the slower server.
-GOALS = {"ready bodies": 1.5, "plain Rust": 1.0, "streaming_bulk": 1.0}
+GOALS = {"ready bodies": 1.5, "streaming_bulk": 1.0}
+# The goals next to the plain Rust relay that does the same work: the time with one request in flight, and the processor time,
+# with both servers, and the time with two in flight, with the slower one.
+ORDERED_GOALS = {"one": 1.0, "processor": 0.95, "two": 0.8}
 # The limit in bytes of a server that has one, the size of a source in bytes, and the goal: the maximum ratio to the time
 # without a limit.
 MOST, LARGE, HALVES_GOAL = 60_000, 1000, 1.5
-# What the relay is called if it has two requests of each lane in flight, which the plain Rust relay could not have without
-# giving up the order of a document's writes.
+# What the relay is called if it has two requests of each lane in flight.
 TWO = "relay, 2 in flight"
 # A server that takes SLOW microseconds per request: the operations per request, the pairs of lanes and requests in flight
 # that are measured, and the goal: how many times as fast one lane with 8 in flight must be as one lane with 1.
@@ -45,8 +50,8 @@ PYTHONS = (sys.executable, "/usr/bin/python3")
 class Server:
     """A running `bulk serve`."""
 
-    def __init__(self, bulk, nanoseconds, most=None, microseconds=0):
-        words = [str(nanoseconds), str(2**40 if most is None else most), str(microseconds)]
+    def __init__(self, bulk, nanoseconds, most=None, microseconds=0, threads=0):
+        words = [str(nanoseconds), str(2**40 if most is None else most), str(microseconds), str(threads)]
         self.process = subprocess.Popen([bulk, "serve", *words], stdout=subprocess.PIPE, text=True)
         self.port = self.process.stdout.readline().strip()
 
@@ -138,8 +143,10 @@ def run_command(relay, port, lanes, paths, flying=1):
 def commands(tools, relay, port, lanes, paths, ready):
     """The commands to compare, by name."""
     found = {"relay run": run_command(relay, port, lanes, paths), TWO: run_command(relay, port, lanes, paths, 2)}
+    if tools["ordered"]:
+        found[ORDERED] = [tools["ordered"], port, str(lanes), *paths]
     if tools["forward"]:
-        found["plain Rust"] = [tools["forward"], port, *paths]
+        found[FORWARD] = [tools["forward"], port, *paths]
     found["ready bodies"] = [tools["bulk"], "ready", port, *ready]
     if tools["python"]:
         found["streaming_bulk"] = [tools["python"], os.path.join(plain_rust.BENCH, "streaming_bulk.py"), port, *paths]
@@ -168,9 +175,12 @@ def tell(runs, operations, goals):
         wall, used, peak = (plain_rust.median([run[at] for run in of]) for at in range(3))
         ratio, two = (plain_rust.median([own[0] / its[0] for own, its in zip(runs[form], of)]) for form in ("relay run", TWO))
         work = plain_rust.median([own[1] / its[1] for own, its in zip(runs["relay run"], of)])
-        line = "  %-18s %9.0f operations/s %8.3f s of processor %7d KiB  relay/it %.2f, processor %.2f, with 2 in flight %.2f" % (name, operations / wall, used, peak, ratio, work, two)
+        line = "  %-19s %9.0f operations/s %8.3f s of processor %7d KiB  relay/it %.2f, processor %.2f, with 2 in flight %.2f" % (name, operations / wall, used, peak, ratio, work, two)
         if name in goals:
             line += " (goal %.1f: %s)" % (goals[name], "met" if ratio <= goals[name] else "MISSED")
+        if name == ORDERED:
+            found = {"one": ratio, "processor": work, "two": two if goals else None}
+            line += " (goals %s)" % ", ".join("%.2f: %s" % (goal, "met" if found[of] <= goal else "MISSED") for of, goal in ORDERED_GOALS.items() if found[of] is not None)
         print(line)
 
 
@@ -270,12 +280,19 @@ def measure_progress(folder, relay, tools, operations):
 
 
 def measure(folder, relay, operations=OPERATIONS):
-    tools = {"bulk": plain_rust.build(folder, "bulk"), "forward": plain_rust.build(folder, "forward", "serde_json", "serde/derive"), "python": helpers()}
+    tools = {
+        "bulk": plain_rust.build(folder, "bulk"),
+        "ordered": plain_rust.build(folder, "ordered", "serde_json", "serde/derive", "crossbeam-channel"),
+        "forward": plain_rust.build(folder, "forward", "serde_json", "serde/derive"),
+        "python": helpers(),
+    }
     if not tools["bulk"]:
         print("run: not measured: cargo, which builds the server, is not installed")
         return
     if not tools["forward"]:
-        print("run: the plain Rust relay was not measured: librust-serde-json-dev or librust-serde-dev is not installed")
+        print("run: the plain Rust relays were not measured: librust-serde-json-dev or librust-serde-dev is not installed")
+    elif not tools["ordered"]:
+        print("run: the ordered plain Rust relay was not measured: librust-crossbeam-channel-dev is not installed")
     if not tools["python"]:
         print("run: streaming_bulk was not measured: python3-elasticsearch is not installed")
     for shape in SHAPES:

@@ -21,10 +21,10 @@ RATE_GOAL = 0.8
 class Relay:
     """A running `relay serve` in front of a server."""
 
-    def __init__(self, relay, server):
+    def __init__(self, relay, server, *options):
         with socket.create_server(("127.0.0.1", 0)) as free:
             self.port = str(free.getsockname()[1])
-        words = ["serve", "--listen", "127.0.0.1:" + self.port, "--to", "127.0.0.1:" + server.port, "--epoch", "0"]
+        words = ["serve", "--listen", "127.0.0.1:" + self.port, "--to", "127.0.0.1:" + server.port, "--epoch", "0", *options]
         self.process = subprocess.Popen([relay, *words], stdin=subprocess.PIPE, stdout=subprocess.PIPE, stderr=subprocess.PIPE, text=True)
         if not self.process.stderr.readline().startswith("listening on"):
             sys.exit("relay serve has not begun")

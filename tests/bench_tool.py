@@ -1,11 +1,16 @@
-"""Tests of the benchmark's tool at small sizes: `python3 tests/bench_tool.py PROGRAM`.
+"""Tests of the benchmark's tool at small sizes, and of the plot of latencies: `python3 tests/bench_tool.py PROGRAM`.
 
-The times that it prints are ignored here: only what it did is compared.
+The times that the tool prints are ignored here: only what it did is compared. The plot is drawn of times that are made up.
 """
+import os
 import re
 import sys
+import xml.etree.ElementTree
 
 from program import RESULTS, check, run
+
+sys.path.append(os.path.join(os.path.dirname(os.path.dirname(os.path.abspath(__file__))), "bench"))
+import latency
 
 USAGE = b"usage: relay_bench "
 REPLY = (
@@ -68,8 +73,40 @@ def messages():
     measures(["http-write", "2", "10", "3"], b"2 writes, %d bytes, TIME ns a request" % (2 * (77 + 10 + 1)))
 
 
+def points_of(kind, rows):
+    """Returns the points of the lines of this kind in the plot, those of the direct writes first."""
+    svg = xml.etree.ElementTree.fromstring(latency.drawn(rows))
+    lines = [it.get("points") for it in svg.iter("{http://www.w3.org/2000/svg}polyline") if it.get("class").endswith(kind)]
+    return [[tuple(map(float, point.split(","))) for point in line.split()] for line in lines]
+
+
+def plots():
+    """A decade is as high anywhere in the plot, and twice as many clients are as far apart; a higher time is higher up."""
+    row = latency.read("12 writes, 3.5 a second, median 1000.0 us, p99 100000.0 us\n")
+    check("latency: what was printed", row == (12, 3.5, 1000.0, 100000.0), row)
+    rows = {clients: [row, row._replace(median=10000.0)] for clients in latency.CLIENTS}
+    across = [latency.LEFT + latency.WIDE * place / 8 for place in range(9)]
+    bottom, middle, top = (latency.TOP_EDGE + latency.HIGH * part for part in (1, 0.5, 0))
+    wanted = {"median": (bottom, middle), "late": (top, top)}
+    for kind, heights in wanted.items():
+        found = points_of(kind, rows)
+        right = [[(round(x, 1), y) for x in across] for y in heights]
+        check("latency: the lines of the %s" % kind, all(abs(a - b) < 0.1 for line, own in zip(found, right) for point, its in zip(line, own) for a, b in zip(point, its)) and [len(line) for line in found] == [9, 9], found)
+    marks = latency.ticks(1100, 60000)
+    check("latency: the marks", marks == [1000, 2000, 5000, 10000, 20000, 50000, 100000], marks)
+    spoken = [latency.spoken(it) for it in (0.5, 70, 1000, 1540, 15400, 2e6)]
+    check("latency: the times in words", spoken == ["0.5 us", "70 us", "1 ms", "1.5 ms", "15 ms", "2 s"], spoken)
+
+
+def places():
+    """The plot is put behind the table of README.md, and there once."""
+    first = latency.placed("a\n<!-- /compare -->\n\nb\n", latency.IMAGE + " old")
+    second = latency.placed(first, latency.IMAGE + " new")
+    check("latency: its place", second == "a\n<!-- /compare -->\n%s new\n\nb\n" % latency.IMAGE, second)
+
+
 def main():
-    for group in (words, queues, lanes, replies, messages):
+    for group in (words, queues, lanes, replies, messages, plots, places):
         group()
     print("%d passed, %d failed" % (RESULTS["passed"], RESULTS["failed"]))
     sys.exit(RESULTS["failed"] != 0)
