@@ -16,10 +16,11 @@ use Rattle.relay_ndjson.specs.Lines.{IsOfOneLine, IsLineBefore, IsRaw, StopsInLi
 use Rattle.relay_ndjson.specs.LineReading.{TakesNext}
 use Rattle.relay_ndjson.specs.Metadata.{Says, is_document, is_field, index_of, id_of, action_of, fault_or, id_fault, document_fault, metadata_fault, value_fault, line_fault, source_line_fault}
 use Rattle.relay_ndjson.specs.Operations.{blank_limit, saturating_count, Position, Stops}
-use Rattle.relay_ndjson.specs.Steps.{SkipsBlank, StopsInSource}
+use Rattle.relay_ndjson.specs.declared.lines.LineEnd.{LineEnd}
+use Rattle.relay_ndjson.specs.OperationLines.{SkipsTo, StopsInSource}
 use Rattle.relay_ndjson.proofs.Asking.{decide}
 use Rattle.relay_ndjson.proofs.Deciding.{key_none}
-use Rattle.relay_ndjson.proofs.Taking.{blank_last}
+use Rattle.relay_ndjson.proofs.Taking.{blank_last, text_of}
 
 -- ---- no fault of a line is that of a read
 
@@ -109,35 +110,35 @@ blank_stops default old new n e t c =
     }
 
 -- an action line that breaks the grammar, or for which an allocation failed
-pub action_stops : (default : Option (List ℕ)) (old new : Position) (text : List ℕ) (k : LineKind) → SkipsBlank old new text (Ok true) → (k ≡ kind.Memory) ⊎ (line_fault default text ≡ Some k) → Stops default old new (record { line = new.count; kind = k })
-action_stops default old new text k s f =
+pub action_stops : (default : Option (List ℕ)) (old new : Position) (text : List ℕ) (end : LineEnd) (k : LineKind) → SkipsTo old new text end → (k ≡ kind.Memory) ⊎ (line_fault default text ≡ Some k) → Stops default old new (record { line = new.count; kind = k })
+action_stops default old new text end k s f =
     let no : is_read k ≡ false = elim f [ inl m ↦ ap is_read m | inr e ↦ no_read_line default text k e ] in record {
       taken = s.0;
       front = s.1;
       begins = inl (s.2, s.3);
       line = omega (arith, s.6);
-      stop = stops_after s.1 new.ahead new.held text k s.4 no;
+      stop = stops_after s.1 new.ahead new.held text k (text_of s.1 new.ahead text end s.4) no;
     }
 
 -- a line that is not a source, or for which an allocation failed
-pub line_stops : (old new : Position) (line : ℕ) (text : List ℕ) (k : LineKind) → TakesNext old.ahead new.ahead old.count new.count text (Ok true) → (k ≡ kind.Memory) ⊎ (source_line_fault text ≡ Some k) → StopsInSource old new line (record { line = new.count; kind = k })
-line_stops old new line text k t f =
+pub line_stops : (old new : Position) (text : List ℕ) (k : LineKind) → TakesNext old.ahead new.ahead old.count new.count text (Ok true) → (k ≡ kind.Memory) ⊎ (source_line_fault text ≡ Some k) → StopsInSource old new (record { line = new.count; kind = k })
+line_stops old new text k t f =
     let no : is_read k ≡ false = elim f [ inl m ↦ ap is_read m | inr e ↦ no_read_source text k e ] in
     inl (t.1, stops_after old.ahead new.ahead new.held text k t.0 no)
 
 -- a source that is invalid, or for which an allocation failed
-pub source_stops : (default : Option (List ℕ)) (old mid new : Position) (text : List ℕ) (key : DocKey) (e : InputFault) → SkipsBlank old mid text (Ok true) → Says default text action.Index key.index key.id → StopsInSource mid new mid.count e → Stops default old new e
-source_stops default old mid new text key e s says (inl f) = record {
+pub source_stops : (default : Option (List ℕ)) (old mid new : Position) (text : List ℕ) (end : LineEnd) (key : DocKey) (e : InputFault) → SkipsTo old mid text end → Says default text action.Index key.index key.id → StopsInSource mid new e → Stops default old new e
+source_stops default old mid new text end key e s says (inl f) = record {
   taken = s.0 + 1;
   front = mid.ahead;
-  begins = inr (s.0, s.1, text, key.index, key.id, s.2, s.3, s.4, says, key_none key.index key.id key.index_ok key.id_ok, refl);
+  begins = inr (s.0, s.1, text, key.index, key.id, s.2, s.3, text_of s.1 mid.ahead text end s.4, says, key_none key.index key.id key.index_ok key.id_ok, refl);
   line = omega (arith, s.6, f.0);
   stop = f.1;
 }
-source_stops default old mid new text key e s says (inr f) = record {
+source_stops default old mid new text end key e s says (inr f) = record {
   taken = s.0;
   front = s.1;
   begins = inl (s.2, s.3);
   line = omega (arith, s.6, f.0);
-  stop = stops_after s.1 new.ahead new.held text e.kind (subst (λ (o : Option (List ℕ)). TakesText s.1 o text) (sym f.2) s.4) (ap is_read f.1);
+  stop = stops_after s.1 new.ahead new.held text e.kind (subst (λ (o : Option (List ℕ)). TakesText s.1 o text) (sym f.2) (text_of s.1 mid.ahead text end s.4)) (ap is_read f.1);
 }

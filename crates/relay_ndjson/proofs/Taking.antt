@@ -1,5 +1,5 @@
 -- Steps of the reader, and what they say of the grammar.
-use Rattle.std.proofs.Common.{◌≡◌, ◌⊎◌, ℕ, zero, suc, ◌+◌, ◌≤◌, List, [], ◌∷◌, length, Bool, true, false, Option, Some, Ok, Err, refl, sym, subst, arith, add-one, inl, inr}
+use Rattle.std.proofs.Common.{◌≡◌, ◌⊎◌, ℕ, zero, suc, ◌+◌, ◌≤◌, List, [], ◌∷◌, ◌++◌, length, Bool, true, false, Option, Some, Ok, Err, refl, sym, subst, arith, add-one, inl, inr}
 use Rattle.relay_action.specs.Streams.{one_more}
 use Rattle.relay_action.specs.declared.key.DocKey.{DocKey}
 use Rattle.relay_action.specs.declared.action.Action.{Action}
@@ -12,8 +12,12 @@ use Rattle.relay_ndjson.specs.Metadata.{Says, line_fault}
 use Rattle.relay_ndjson.specs.Lines.{TakesText, IsLong, TakesBlank}
 use Rattle.relay_ndjson.proofs.Deciding.{key_none}
 use Rattle.relay_ndjson.specs.Operations.{blank_limit, saturating_count, TakesOperation, BreaksAt, IsFault, Position, line_count}
-use Rattle.relay_ndjson.specs.LineReading.{TakesNext}
-use Rattle.relay_ndjson.specs.Steps.{SkipsBlank, TakesSource}
+use Rattle.relay_ndjson.specs.declared.lines.LineEnd.{LineEnd}
+use Rattle.relay_ndjson.specs.LineReading.{TakesBytes, TakesNext, end_bytes}
+use Rattle.relay_ndjson.specs.OperationLines.{SkipsTo, TakesSourceLine}
+
+pub text_of : (old new : Option (List ℕ)) (text : List ℕ) (end : LineEnd) → TakesBytes old new text end → TakesText old new text
+text_of old new text end t = record { bytes = text ++ end_bytes end; line = t.line; taken = t.taken }
 
 pub blank_more : (n : ℕ) (old mid new : Option (List ℕ)) → TakesBlank n old mid → TakesText mid new [] → TakesBlank (suc n) old new
 blank_more zero old mid new t s = (new, subst (λ (o : Option (List ℕ)). TakesText o new []) t s, refl)
@@ -40,33 +44,40 @@ blank_fault default old new n count here e t c =
     fault_at default old last.0 blank_limit 1 count (record { line = here; kind = kind.LineLong }) (omega arith) last.1 (inr (inl ((refl, new, last.2, refl), refl))) l
 
 -- the action line breaks the grammar
-pub action_fault : (default : Option (List ℕ)) (old new : Position) (text : List ℕ) (k : LineKind) → SkipsBlank old new text (Ok true) → (k ≡ kind.Memory) ⊎ (line_fault default text ≡ Some k) → IsFault default old.ahead old.count (record { line = new.count; kind = k })
-action_fault default old new text k s f =
+pub action_fault : (default : Option (List ℕ)) (old new : Position) (text : List ℕ) (end : LineEnd) (k : LineKind) → SkipsTo old new text end → (k ≡ kind.Memory) ⊎ (line_fault default text ≡ Some k) → IsFault default old.ahead old.count (record { line = new.count; kind = k })
+action_fault default old new text end k s f =
     let l : new.count ≡ saturating_count (old.count + (s.0 + 1)) = omega (arith, s.6) in
     elim f [
       | inl m ↦ inr (inl m)
-      | inr b ↦ fault_at default old.ahead s.1 s.0 1 old.count (record { line = new.count; kind = k }) s.2 s.3 (inl (inr (text, new.ahead, s.4, s.5, b), refl)) l
+      | inr b ↦ fault_at default old.ahead s.1 s.0 1 old.count (record { line = new.count; kind = k }) s.2 s.3 (inl (inr (text, new.ahead, text_of s.1 new.ahead text end s.4, s.5, b), refl)) l
     ]
 
 -- the source line does
-pub source_fault : (default : Option (List ℕ)) (old mid new : Position) (text : List ℕ) (key : DocKey) (e : InputFault) → SkipsBlank old mid text (Ok true) → Says default text action.Index key.index key.id → TakesSource mid new mid.count (Err e) → IsFault default old.ahead old.count e
-source_fault default old mid new text key e s says f =
+pub source_fault : (default : Option (List ℕ)) (old mid new : Position) (text next : List ℕ) (end last : LineEnd) (key : DocKey) (e : InputFault) → SkipsTo old mid text end → Says default text action.Index key.index key.id → TakesSourceLine mid new next last (Err e) → IsFault default old.ahead old.count e
+source_fault default old mid new text next end last key e s says f =
+    let first = text_of s.1 mid.ahead text end s.4 in
     elim f [
       | inl r ↦ inl r
       | inr o ↦ elim o [
         | inl m ↦ inr (inl m)
         | inr p ↦ elim p [
-          | inl q ↦ fault_at default old.ahead s.1 s.0 1 old.count e s.2 s.3 (inr (inr (text, mid.ahead, key.index, key.id, s.4, says, key_none key.index key.id key.index_ok key.id_ok, inl (q.0, q.1, refl)))) (omega (arith, s.6, q.2))
-          | inr q ↦ fault_at default old.ahead s.1 s.0 2 old.count e s.2 s.3 (inr (inr (text, mid.ahead, key.index, key.id, s.4, says, key_none key.index key.id key.index_ok key.id_ok, inr (q.0, refl)))) (omega (arith, s.6, q.1))
+          | inl q ↦ fault_at default old.ahead s.1 s.0 1 old.count e s.2 s.3 (inr (inr (text, mid.ahead, key.index, key.id, first, says, key_none key.index key.id key.index_ok key.id_ok, inl (q.0, q.1, refl)))) (omega (arith, s.6, q.2))
+          | inr q ↦ fault_at default old.ahead s.1 s.0 2 old.count e s.2 s.3 (inr (inr (text, mid.ahead, key.index, key.id, first, says, key_none key.index key.id key.index_ok key.id_ok, inr (q.0, refl)))) (omega (arith, s.6, q.1))
         ]
       ]
     ]
 
 -- an index action and its source
-pub source_taken : (default : Option (List ℕ)) (old mid new : Position) (text : List ℕ) (key : DocKey) (a : Action) → SkipsBlank old mid text (Ok true) → Says default text action.Index key.index key.id → TakesSource mid new mid.count (Ok a) → (n : ℕ) × TakesOperation default old.ahead new.ahead n (key, a) × (mid.count ≡ saturating_count (old.count + n + 1)) × (new.count ≡ saturating_count (old.count + n + line_count a))
-source_taken default old mid new text key (Index source) s says t =
-    (s.0, (s.1, s.2, s.3, (text, mid.ahead, s.4, says, subst (λ (x : List ℕ). TakesText mid.ahead new.ahead x) (sym t.2) t.1)), s.6, omega (arith, s.6, t.3))
-source_taken default old mid new text key Delete s says t = absurd t.2
+pub source_taken : (default : Option (List ℕ)) (old mid new : Position) (text next : List ℕ) (end last : LineEnd) (key : DocKey) (a : Action) → SkipsTo old mid text end → Says default text action.Index key.index key.id → TakesSourceLine mid new next last (Ok a) → (n : ℕ) × TakesOperation default old.ahead new.ahead n (key, a) × (mid.count ≡ saturating_count (old.count + n + 1)) × (new.count ≡ saturating_count (old.count + n + line_count a))
+source_taken default old mid new text next end last key (Index source) s says t =
+    let second = subst (λ (x : List ℕ). TakesText mid.ahead new.ahead x) (sym t.1) (text_of mid.ahead new.ahead next last t.0) in
+    (s.0, (s.1, s.2, s.3, (text, mid.ahead, text_of s.1 mid.ahead text end s.4, says, second)), s.6, omega (arith, s.6, t.2))
+source_taken default old mid new text next end last key Delete s says t = absurd t.1
+
+-- a delete action
+pub delete_taken : (default : Option (List ℕ)) (old new : Position) (text : List ℕ) (end : LineEnd) (key : DocKey) → SkipsTo old new text end → Says default text action.Delete key.index key.id → (n : ℕ) × TakesOperation default old.ahead new.ahead n (key, Delete) × (new.count ≡ saturating_count (old.count + n + 1)) × (new.count ≡ saturating_count (old.count + n + line_count Delete))
+delete_taken default old new text end key s says =
+    (s.0, (s.1, s.2, s.3, (text, text_of s.1 new.ahead text end s.4, says)), s.6, s.6)
 
 -- one more blank line
 pub blank_next : (n : ℕ) (old mid new : Option (List ℕ)) (here after : ℕ) (text : List ℕ) (found : Bool) → found ≡ true → TakesNext mid new here after text (Ok found) → length text ≡ 0 → TakesBlank n old mid → TakesBlank (n + 1) old new × (after ≡ one_more here)

@@ -9,6 +9,7 @@ pub mod Metadata
 pub mod Usual
 pub mod Fields
 pub mod Operations
+pub mod OperationLines
 pub mod Reading
 pub mod Laws
 pub mod VersionedLines

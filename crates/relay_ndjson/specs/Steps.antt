@@ -15,9 +15,10 @@ use Rattle.relay_ndjson.specs.declared.lines.Line.TheVariants as line
 use Rattle.relay_ndjson.specs.declared.lines.LineEnd.{LineEnd}
 use Rattle.relay_ndjson.specs.declared.lines.Part.{Part}
 use Rattle.relay_ndjson.specs.declared.lines.Part.TheVariants as part
-use Rattle.relay_ndjson.specs.Lines.{IsUnbroken, IsRaw, IsLine, IsPastLimit, IsLong, TakesText, TakesBlank, StopsInLine, is_read, line_limit}
-use Rattle.relay_ndjson.specs.Operations.{blank_limit, saturating_count, line_count, TakesOperation, HoldsNoMore, BreaksSource, IsFault, Position}
+use Rattle.relay_ndjson.specs.Lines.{IsUnbroken, IsRaw, IsLine, IsPastLimit, IsLong, is_read, line_limit}
+use Rattle.relay_ndjson.specs.Operations.{saturating_count, line_count, TakesOperation, HoldsNoMore, IsFault, Position}
 use Rattle.relay_ndjson.specs.LineReading.{TakesBytes, end_bytes}
+use Rattle.relay_ndjson.specs.OperationLines.{SkipsTo}
 use Rattle.relay_ndjson.specs.Bodies.{BeginsWithLine, IsLinesOf}
 
 -- ---- a line
@@ -70,30 +71,13 @@ abbrev pub failed_by : {T : Type 0} → Result T LineKind → ℕ → ℕ
 failed_by (Ok x) n = n
 failed_by (Err k) n = if is_read k then one_more n else n
 
--- ---- an operation: whether there is an action line
+-- ---- an operation
 
-abbrev pub SkipsBlank : Position → Position → List ℕ → Result Bool InputFault → Type 0
-SkipsBlank old new text (Ok true) =
-    (n : ℕ) × (mid : Option (List ℕ)) × (n ≤ blank_limit) × TakesBlank n old.ahead mid × TakesText mid new.ahead text × (text ≢ [])
-    × (new.count ≡ saturating_count (old.count + n + 1))
-SkipsBlank old new text (Ok false) = HoldsNoMore old.ahead
-SkipsBlank old new text (Err e) = (default : Option (List ℕ)) → IsFault default old.ahead old.count e
-
--- the source line of the action on a line
-abbrev pub TakesSource : Position → Position → ℕ → Result Action InputFault → Type 0
-TakesSource old new line (Ok a) =
-    (text : List ℕ) × TakesText old.ahead new.ahead text × IsIndexOf text a × (new.count ≡ one_more old.count)
-TakesSource old new line (Err e) =
-    (e.kind ≡ kind.Read) ⊎ (e.kind ≡ kind.Memory)
-    ⊎ (IsAtEnd old.ahead × (e.kind ≡ kind.SourceMissing) × (e.line ≡ line))
-    ⊎ (BreaksSource old.ahead e.kind × (e.line ≡ one_more old.count))
-
--- where the reader stopped instead of reading a source: in its line, or at the end, which is a fault of the action's
--- line
-abbrev pub StopsInSource : Position → Position → ℕ → InputFault → Type 0
-StopsInSource old new line e =
-    ((e.line ≡ one_more old.count) × StopsInLine old.ahead new.ahead new.held e.kind)
-    ⊎ ((e.line ≡ line) × (e.kind ≡ kind.SourceMissing) × (new.ahead ≡ old.ahead))
+-- blank lines were taken, and then a line that is not blank; or only blank lines were left; or what follows has a fault
+abbrev pub SkipsBlank : Position → Position → List ℕ → LineEnd → Result Bool InputFault → Type 0
+SkipsBlank old new text end (Ok true) = SkipsTo old new text end
+SkipsBlank old new text end (Ok false) = HoldsNoMore old.ahead
+SkipsBlank old new text end (Err e) = (default : Option (List ℕ)) → IsFault default old.ahead old.count e
 
 abbrev pub Reads : Option (List ℕ) → Position → Position → Result (Option NumberedOperation) InputFault → Type 0
 Reads default old new (Ok (Some f)) =

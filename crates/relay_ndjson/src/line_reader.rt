@@ -1,15 +1,19 @@
-//! The lines of a stream, for formats other than bulk text.
+//! The lines of a stream, for formats other than bulk text, and for callers that keep the lines of
+//! operations.
 ghost use Rattle.std.specs.Prelude.{◌≡◌, ◌≤◌, [], length, IfOk, IfErr, OnErr};
 ghost use Rattle.std.specs.Bool.{OnTrue};
 ghost use Rattle.std.specs.Io.KnownBytes.{prepend_known};
 ghost use Rattle.relay_ndjson.specs.Lines.{StopsInLine, piece_limit};
-ghost use Rattle.relay_ndjson.specs.Operations.{failed_after};
+ghost use Rattle.relay_ndjson.specs.Metadata.{bytes_given};
+ghost use Rattle.relay_ndjson.specs.Operations.{Stops, failed_after, position};
 ghost use Rattle.relay_ndjson.specs.LineReading.{TakesNext, TakesBytes, holds_end};
+ghost use Rattle.relay_ndjson.specs.OperationLines.{TakesActionLine, TakesSourceLine};
+ghost use Rattle.relay_ndjson.specs.OperationLines.{StopsInSource};
 
 use crate::kind::InputFault;
 use crate::lines::{LineEnd, Lines};
 use memchr::memchr;
-use relay_action::ByteIn;
+use relay_action::{Action, ActionKind, ByteIn, DocKey};
 use std::alloc::Global;
 use std::marker::Model;
 
@@ -64,6 +68,49 @@ impl LineReader {
         ensures held { length self.new.held ≤ piece_limit }
     {
         self.lines.take_line(reader)
+    }
+
+    /// Takes blank lines and the action line of the next operation, if there is one, and returns
+    /// what it asks for. With [`next_source`](LineReader::next_source) after an index action it
+    /// takes the lines of operations one after another, with the faults of
+    /// [`Parser::next`](crate::Parser::next); the line taken last can be kept before the next one.
+    /// Operations without an index name get the default index, if one is given.
+    pub fn next_action<R: ByteIn>(
+        &mut self,
+        alloc: Global,
+        reader: &mut R,
+        default_index: Option<&str>,
+    ) -> Result<Option<(ActionKind, DocKey)>, InputFault>
+        ensures line { TakesActionLine (bytes_given default_index.entry)
+            (position (R.left reader.old) self.old.held self.old.count)
+            (position (R.left reader.new) self.new.held self.new.count)
+            self.new.text self.new.end result }
+        ensures stop { IfErr result (Stops (bytes_given default_index.entry)
+            (position (R.left reader.old) self.old.held self.old.count)
+            (position (R.left reader.new) self.new.held self.new.count)) }
+        ensures failed { R.failed reader.new ≡ failed_after result (R.failed reader.old) }
+        ensures held { length self.new.held ≤ piece_limit }
+    {
+        self.lines.take_action(alloc, reader, default_index)
+    }
+
+    /// Takes the source line of the index action that was taken last, and returns the action. If
+    /// the stream ends before it, the fault `SourceMissing` has the action's line.
+    pub fn next_source<R: ByteIn>(
+        &mut self,
+        alloc: Global,
+        reader: &mut R,
+    ) -> Result<Action, InputFault>
+        ensures line { TakesSourceLine (position (R.left reader.old) self.old.held self.old.count)
+            (position (R.left reader.new) self.new.held self.new.count)
+            self.new.text self.new.end result }
+        ensures stop { IfErr result (StopsInSource
+            (position (R.left reader.old) self.old.held self.old.count)
+            (position (R.left reader.new) self.new.held self.new.count)) }
+        ensures failed { R.failed reader.new ≡ failed_after result (R.failed reader.old) }
+        ensures held { length self.new.held ≤ piece_limit }
+    {
+        self.lines.take_source(alloc, reader)
     }
 
     /// The last line taken, without its end.

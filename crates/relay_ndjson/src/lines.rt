@@ -96,7 +96,9 @@ impl Lines {
     ghost use Rattle.relay_ndjson.specs.Metadata.{bytes_given};
     ghost use Rattle.relay_ndjson.specs.Operations.{Stops, failed_after, position};
     ghost use Rattle.relay_ndjson.specs.LineReading.{TakesNext};
-    ghost use Rattle.relay_ndjson.specs.Steps.{SkipsBlank, TakesSource, Reads, StopsInSource};
+    ghost use Rattle.relay_ndjson.specs.OperationLines.{TakesActionLine, TakesSourceLine};
+    ghost use Rattle.relay_ndjson.specs.OperationLines.{StopsInSource};
+    ghost use Rattle.relay_ndjson.specs.Steps.{SkipsBlank, Reads};
 
     /// Before any line was taken.
     pub fn new(alloc: Global) -> Lines
@@ -191,11 +193,11 @@ impl Lines {
         }
     }
 
-    // Takes blank lines and the action line after them, if there is one.
+    // Takes blank lines and the line after them, if there is one.
     fn skip_blank<R: ByteIn>(&mut self, reader: &mut R) -> Result<bool, InputFault>
         ensures line { SkipsBlank (position (R.left reader.old) self.old.piece self.old.count)
             (position (R.left reader.new) self.new.piece self.new.count)
-            self.new.text.items result }
+            self.new.text.items self.new.end result }
         ensures stop { IfErr result (λ e. (default : Option (List ℕ))
             → Stops default (position (R.left reader.old) self.old.piece self.old.count)
             (position (R.left reader.new) self.new.piece self.new.count) e) }
@@ -216,24 +218,55 @@ impl Lines {
         })
     }
 
-    // Takes the source line of the action on a line.
-    fn take_source<R: ByteIn>(
+    /// Takes blank lines and the action line after them, if there is one, and returns what it asks
+    /// for.
+    pub fn take_action<R: ByteIn>(
         &mut self,
         alloc: Global,
         reader: &mut R,
-        line: u64,
+        default_index: Option<&str>,
+    ) -> Result<Option<(ActionKind, DocKey)>, InputFault>
+        ensures line { TakesActionLine (bytes_given default_index.entry)
+            (position (R.left reader.old) self.old.piece self.old.count)
+            (position (R.left reader.new) self.new.piece self.new.count)
+            self.new.text.items self.new.end result }
+        ensures stop { IfErr result (Stops (bytes_given default_index.entry)
+            (position (R.left reader.old) self.old.piece self.old.count)
+            (position (R.left reader.new) self.new.piece self.new.count)) }
+        ensures failed { R.failed reader.new ≡ failed_after result (R.failed reader.old) }
+    {
+        let found = self.skip_blank(reader)?;
+        if !found {
+            return Ok(None);
+        }
+        let text = self.text.as_slice();
+        match read_action(alloc, default_index, text, &mut self.scratch) {
+            Ok(asked) => Ok(Some(asked)),
+            Err(kind) => Err(InputFault {
+                line: self.count,
+                kind,
+            }),
+        }
+    }
+
+    /// Takes the source line of the index action on the last line taken.
+    pub fn take_source<R: ByteIn>(
+        &mut self,
+        alloc: Global,
+        reader: &mut R,
     ) -> Result<Action, InputFault>
-        ensures line { TakesSource (position (R.left reader.old) self.old.piece self.old.count)
-            (position (R.left reader.new) self.new.piece self.new.count) line result }
+        ensures line { TakesSourceLine (position (R.left reader.old) self.old.piece self.old.count)
+            (position (R.left reader.new) self.new.piece self.new.count)
+            self.new.text.items self.new.end result }
         ensures stop { IfErr result (StopsInSource
             (position (R.left reader.old) self.old.piece self.old.count)
-            (position (R.left reader.new) self.new.piece self.new.count) line) }
+            (position (R.left reader.new) self.new.piece self.new.count)) }
         ensures failed { R.failed reader.new ≡ failed_after result (R.failed reader.old) }
     {
         let found = self.take_line(reader)?;
         if !found {
             return Err(InputFault {
-                line,
+                line: self.count,
                 kind: LineKind::SourceMissing,
             });
         }
@@ -261,16 +294,10 @@ impl Lines {
             (position (R.left reader.new) self.new.piece self.new.count)) }
         ensures failed { R.failed reader.new ≡ failed_after result (R.failed reader.old) }
     {
-        let found = self.skip_blank(reader)?;
-        if !found {
+        let Some((kind, key)) = self.take_action(alloc, reader, default_index)? else {
             return Ok(None);
-        }
-        let line = self.count;
-        let text = self.text.as_slice();
-        let (kind, key) = match read_action(alloc, default_index, text, &mut self.scratch) {
-            Ok(asked) => asked,
-            Err(kind) => return Err(InputFault { line, kind }),
         };
+        let line = self.count;
         match kind {
             ActionKind::Delete => Ok(Some(NumberedOperation {
                 line,
@@ -278,7 +305,7 @@ impl Lines {
                 action: Action::delete(),
             })),
             ActionKind::Index => {
-                let action = self.take_source(alloc, reader, line)?;
+                let action = self.take_source(alloc, reader)?;
                 Ok(Some(NumberedOperation { line, key, action }))
             }
         }

@@ -408,6 +408,52 @@ fn refused_parser(rt: HostRuntime) {
     assert!(rt; first == Some(Reading::Whole) || parse_input(rt.alloc()) == Some(Reading::Whole));
 }
 
+// Whether the next action line of the input asks for an action of this kind.
+fn asks(
+    lines: &mut LineReader,
+    alloc: Global,
+    stream: &mut MemStream,
+    wanted: ActionKind,
+) -> Result<bool, LineKind> {
+    match lines.next_action(alloc, stream, None) {
+        Ok(Some((kind, key))) => Ok(kind == wanted && key.id() == ID && key.index() == "books"),
+        Ok(None) => Ok(false),
+        Err(fault) => Err(fault.kind),
+    }
+}
+
+fn stores(lines: &mut LineReader, alloc: Global, stream: &mut MemStream) -> Result<bool, LineKind> {
+    match lines.next_source(alloc, stream) {
+        Ok(action) => Ok(is_source(&action)),
+        Err(fault) => Err(fault.kind),
+    }
+}
+
+fn takes_operations(
+    lines: &mut LineReader,
+    alloc: Global,
+    stream: &mut MemStream,
+) -> Result<bool, LineKind> {
+    let deletes = asks(lines, alloc, stream, ActionKind::Delete)?;
+    let indexes = asks(lines, alloc, stream, ActionKind::Index)?;
+    Ok(stores(lines, alloc, stream)? && deletes && indexes)
+}
+
+// Whether the lines of the two operations are taken, or why not.
+fn take_operations(alloc: Global) -> Option<Result<bool, LineKind>> {
+    let mut stream = stream_of(alloc, INPUT)?;
+    let mut lines = LineReader::new(alloc);
+    Some(takes_operations(&mut lines, alloc, &mut stream))
+}
+
+#[test]
+fn refused_lines_of_operations(rt: HostRuntime) {
+    let whole = Some(Ok(true));
+    let first = take_operations(rt.alloc());
+    assert!(rt; first == whole || first == Some(Err(LineKind::Memory)));
+    assert!(rt; first == whole || take_operations(rt.alloc()) == whole);
+}
+
 /// Lines, each with a different end, and the input that consists of them.
 const LINES: [&[u8]; 3] = [
     b"the first line, of more than thirty-eight bytes, and it ends in 1",

@@ -15,4 +15,4 @@ returns-in-Err-clause-stop g c =
     let new = position (g.R.ByteStream.left c.take_line.new.reader) c.take_line.new.self.piece c.take_line.new.self.count in
     let taken = rw c.if-not-found.false at c.in_ok-found.ensures.line in
     let kinds = rw c.as_slice.ensures.value at c.in-Err.ensures.err in
-    line_stops old new c.args.line c.take_line.new.self.text.items c.in-Err.kind taken kinds
+    line_stops old new c.take_line.new.self.text.items c.in-Err.kind taken kinds
