@@ -38,25 +38,33 @@ fn answer(alloc: Global, lane: &mut Lane, given: Given<'_>) -> Result<bool, Fail
     Ok(settled.is_ok())
 }
 
-// Puts one operation, whose three tries are answered so. What became of the last, if it is given up.
-fn last_of(alloc: Global, tries: &[Given<'_>]) -> Result<Option<LastTry>, Fail> {
-    let mut lane = lane_of(alloc, CONFIG)?;
-    put(alloc, &mut lane, 1, "a", "{}")?;
+// Puts one operation, whose tries are answered so. Whether each was made.
+fn are_made(alloc: Global, lane: &mut Lane, tries: &[Given<'_>]) -> Result<bool, Fail> {
+    put(alloc, lane, 1, "a", "{}")?;
     for given in tries {
-        if !answer(alloc, &mut lane, *given)? {
-            return Ok(None);
+        if !answer(alloc, lane, *given)? {
+            return Ok(false);
         }
         for _ in 0..4 {
             lane.tick();
         }
     }
-    Ok(match lane.reports().first() {
-        Some(report) => match &report.cause {
-            Cause::GaveUp { sends: 3, last } => Some(*last),
-            _ => None,
-        },
-        None => None,
-    })
+    Ok(true)
+}
+
+// What became of the last of three tries, if the first report says that there was one.
+fn last_in(lane: &Lane) -> Option<LastTry> {
+    match &lane.reports().first()?.cause {
+        Cause::GaveUp { sends: 3, last } => Some(*last),
+        _ => None,
+    }
+}
+
+// Puts one operation, whose three tries are answered so. What became of the last, if it is given up.
+fn last_of(alloc: Global, tries: &[Given<'_>]) -> Result<Option<LastTry>, Fail> {
+    let mut lane = lane_of(alloc, CONFIG)?;
+    let made = are_made(alloc, &mut lane, tries)?;
+    Ok(if made { last_in(&lane) } else { None })
 }
 
 const BUSY: &[Entry<'_>] = &[Entry::Failed("a", 429)];
@@ -121,17 +129,27 @@ fn refuses_three(alloc: Global, lane: &mut Lane, reason: &str) -> Result<bool, F
     Ok(before && answer(alloc, lane, Given::Whole(403, reason))?)
 }
 
-// The first report of a request has the reason, and no other.
+// Whether the reports are on whole requests, with these statuses and reasons.
+fn have_reasons(lane: &Lane, reasons: &[(u16, &str)]) -> bool {
+    for at in 0..reasons.len() {
+        if reason_at(lane, at, reasons[at].0) != Some(reasons[at].1) {
+            return false;
+        }
+    }
+    lane.reports().len() == reasons.len()
+}
+
+// Whether the first report of a request has this reason, and no other has.
+fn tells_first(alloc: Global, reason: &str) -> Result<bool, Fail> {
+    let mut lane = lane_of(alloc, CONFIG)?;
+    let refused = refuses_three(alloc, &mut lane, reason)?;
+    let reasons = &[(400, "the one before"), (403, reason), (403, ""), (403, "")];
+    Ok(refused && have_reasons(&lane, reasons))
+}
+
 #[test]
 fn the_first_has_the_reason(rt: HostRuntime) -> Result<(), Fail> {
-    for reason in ["no permissions for [indices:data/write/bulk]", ""] {
-        let mut lane = lane_of(rt.alloc(), CONFIG)?;
-        assert!(rt; refuses_three(rt.alloc(), &mut lane, reason)?);
-        assert!(rt; lane.reports().len() == 4);
-        assert!(rt; reason_at(&lane, 0, 400) == Some("the one before"));
-        assert!(rt; reason_at(&lane, 1, 403) == Some(reason));
-        assert!(rt; reason_at(&lane, 2, 403) == Some(""));
-        assert!(rt; reason_at(&lane, 3, 403) == Some(""));
-    }
+    assert!(rt; tells_first(rt.alloc(), "no permissions for [indices:data/write/bulk]")?);
+    assert!(rt; tells_first(rt.alloc(), "")?);
     Ok(())
 }

@@ -49,19 +49,21 @@ fn filled(
     Ok((more, lane.held(), carried(lane)?))
 }
 
+// The same for a lane of its own.
+fn fill(alloc: Global, distinct: bool) -> Result<(Option<TakeFault>, u32, usize), Fail> {
+    let mut lane = lane_of(alloc, FULL)?;
+    filled(alloc, &mut lane, distinct)
+}
+
 #[test]
 fn of_one_document(rt: HostRuntime) -> Result<(), Fail> {
-    let mut lane = lane_of(rt.alloc(), FULL)?;
-    let wanted = (Some(TakeFault::HeldFull), 65_536, 1);
-    assert!(rt; filled(rt.alloc(), &mut lane, false)? == wanted);
+    assert!(rt; fill(rt.alloc(), false)? == (Some(TakeFault::HeldFull), 65_536, 1));
     Ok(())
 }
 
 #[test]
 fn of_as_many_documents(rt: HostRuntime) -> Result<(), Fail> {
-    let mut lane = lane_of(rt.alloc(), FULL)?;
-    let wanted = (Some(TakeFault::HeldFull), 65_536, 10);
-    assert!(rt; filled(rt.alloc(), &mut lane, true)? == wanted);
+    assert!(rt; fill(rt.alloc(), true)? == (Some(TakeFault::HeldFull), 65_536, 10));
     Ok(())
 }
 
@@ -95,22 +97,39 @@ fn one_by_one(alloc: Global, lane: &mut Lane, count: u64) -> Result<(u32, u64), 
     Ok((lane.held(), lane.looks()))
 }
 
+// The same for a lane of its own.
+fn each_alone(alloc: Global, count: u64) -> Result<(u32, u64), Fail> {
+    let mut lane = lane_of(alloc, FULL)?;
+    one_by_one(alloc, &mut lane, count)
+}
+
 #[test]
 fn one_look_for_each_request(rt: HostRuntime) -> Result<(), Fail> {
-    let mut lane = lane_of(rt.alloc(), FULL)?;
-    let (held, looks) = one_by_one(rt.alloc(), &mut lane, 100)?;
+    let (held, looks) = each_alone(rt.alloc(), 100)?;
     assert!(rt; held == 0 && 0 < looks && looks <= 100);
     Ok(())
+}
+
+// Deletes of these documents: how many the next request carries, and how many were looked at.
+fn looked(alloc: Global, lane: &mut Lane, documents: &[u64]) -> Result<(usize, u64), Fail> {
+    for at in 0..documents.len() {
+        if !is_put(alloc, lane, at as u64, documents[at])? {
+            return Err("not taken")?;
+        }
+    }
+    Ok((carried(lane)?, lane.looks()))
+}
+
+// The same for a lane of its own.
+fn look(alloc: Global, documents: &[u64]) -> Result<(usize, u64), Fail> {
+    let mut lane = lane_of(alloc, CONFIG)?;
+    looked(alloc, &mut lane, documents)
 }
 
 // A request looks at one operation for each document that is held.
 #[test]
 fn looks_at_each_document(rt: HostRuntime) -> Result<(), Fail> {
-    let mut lane = lane_of(rt.alloc(), CONFIG)?;
-    for (number, document) in [(1, 1), (2, 2), (3, 1), (4, 3)] {
-        assert!(rt; is_put(rt.alloc(), &mut lane, number, document)?);
-    }
-    assert!(rt; carried(&mut lane)? == 3 && lane.looks() == 3);
+    assert!(rt; look(rt.alloc(), &[1, 2, 1, 3])? == (3, 3));
     Ok(())
 }
 

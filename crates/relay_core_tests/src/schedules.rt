@@ -12,7 +12,7 @@ const CREATED: [Entry<'static>; 1] = [Entry::Index("1", 201)];
 const CONFLICT: [Entry<'static>; 1] = [Entry::Failed("1", 409)];
 
 // Three documents in one request; the busy one is sent again, with its version, a tick later.
-const THREE_THEN_ONE: [Step<'static>; 20] = [
+const THREE_THEN_ONE: &[Step<'static>] = &[
     Step::Put("1", "{\"a\":1}"),
     Step::Put("2", "{\"a\":2}"),
     Step::Put("3", ""),
@@ -49,13 +49,13 @@ const THREE_THEN_ONE: [Step<'static>; 20] = [
 
 #[test]
 fn three_then_one(rt: HostRuntime) -> Result<(), Fail> {
-    assert!(rt; goes(rt.alloc(), CONFIG, &THREE_THEN_ONE, &[])?);
+    assert!(rt; goes(rt.alloc(), CONFIG, THREE_THEN_ONE, &[])?);
     Ok(())
 }
 
 // A repeat whose conflict states its own version is settled, and one whose conflict states another is
 // reported, with that version; so is a first conflict, even if it states its own.
-const STATED: [Step<'static>; 15] = [
+const STATED: &[Step<'static>] = &[
     Step::Put("1", "{\"a\":1}"),
     Step::Sends(&[("1", 1)]),
     Step::Lost([0, 0, 0, 1]),
@@ -75,12 +75,12 @@ const STATED: [Step<'static>; 15] = [
 
 #[test]
 fn stated_versions(rt: HostRuntime) -> Result<(), Fail> {
-    assert!(rt; goes(rt.alloc(), CONFIG, &STATED, &[(2, 3, 7), (3, 3, 3)])?);
+    assert!(rt; goes(rt.alloc(), CONFIG, STATED, &[(2, 3, 7), (3, 3, 3)])?);
     Ok(())
 }
 
 // A lost reply, and then a conflict with its own version; a first conflict is reported.
-const CONFLICTS: [Step<'static>; 12] = [
+const CONFLICTS: &[Step<'static>] = &[
     Step::Put("1", "{\"a\":1}"),
     Step::Sends(&[("1", 1)]),
     Step::Lost([0, 0, 0, 1]),
@@ -97,12 +97,12 @@ const CONFLICTS: [Step<'static>; 12] = [
 
 #[test]
 fn conflicts(rt: HostRuntime) -> Result<(), Fail> {
-    assert!(rt; goes(rt.alloc(), CONFIG, &CONFLICTS, &[(2, 3, 0)])?);
+    assert!(rt; goes(rt.alloc(), CONFIG, CONFLICTS, &[(2, 3, 0)])?);
     Ok(())
 }
 
 // The next operation of a document waits until the earlier one is settled.
-const ONE_AT_A_TIME: [Step<'static>; 11] = [
+const ONE_AT_A_TIME: &[Step<'static>] = &[
     Step::Put("1", "{\"a\":1}"),
     Step::Put("1", "{\"a\":2}"),
     Step::Sends(&[("1", 1)]),
@@ -118,7 +118,7 @@ const ONE_AT_A_TIME: [Step<'static>; 11] = [
 
 #[test]
 fn one_of_a_document_at_a_time(rt: HostRuntime) -> Result<(), Fail> {
-    assert!(rt; goes(rt.alloc(), CONFIG, &ONE_AT_A_TIME, &[])?);
+    assert!(rt; goes(rt.alloc(), CONFIG, ONE_AT_A_TIME, &[])?);
     Ok(())
 }
 
@@ -128,7 +128,7 @@ const TWO_ATTEMPTS: RelayConfig = RelayConfig {
 };
 
 // Two attempts: the second loss is reported.
-const GIVEN_UP: [Step<'static>; 9] = [
+const GIVEN_UP: &[Step<'static>] = &[
     Step::Put("1", "{\"a\":1}"),
     Step::Sends(&[("1", 1)]),
     Step::Lost([0, 0, 0, 1]),
@@ -142,7 +142,7 @@ const GIVEN_UP: [Step<'static>; 9] = [
 
 #[test]
 fn given_up(rt: HostRuntime) -> Result<(), Fail> {
-    assert!(rt; goes(rt.alloc(), TWO_ATTEMPTS, &GIVEN_UP, &[(1, 4, 2)])?);
+    assert!(rt; goes(rt.alloc(), TWO_ATTEMPTS, GIVEN_UP, &[(1, 4, 2)])?);
     Ok(())
 }
 
@@ -152,7 +152,7 @@ const NINE_ATTEMPTS: RelayConfig = RelayConfig {
 };
 
 // The single operation is sent, and lost.
-const LOST: [Step<'static>; 3] = [
+const LOST: &[Step<'static>] = &[
     Step::Put("1", "{}"),
     Step::Sends(&[("1", 1)]),
     Step::Lost([0, 0, 0, 1]),
@@ -171,7 +171,7 @@ fn lost_after(pause: u32) -> [Step<'static>; 6] {
 }
 
 // It is sent for the last time.
-const LOST_AT_LAST: [Step<'static>; 6] = [
+const LOST_AT_LAST: &[Step<'static>] = &[
     Step::Ticks(63),
     Step::SendsNone,
     Step::Ticks(1),
@@ -182,11 +182,11 @@ const LOST_AT_LAST: [Step<'static>; 6] = [
 
 // The steps of nine attempts, with these pauses between the first eight of them.
 fn nine_steps(alloc: Global, pauses: &[u32]) -> Result<Vec<Step<'static>>, AllocError> {
-    let mut steps = Vec::from_slice(alloc, &LOST)?;
+    let mut steps = Vec::from_slice(alloc, LOST)?;
     for pause in pauses {
         steps.extend_from_slice(&lost_after(*pause))?;
     }
-    steps.extend_from_slice(&LOST_AT_LAST)?;
+    steps.extend_from_slice(LOST_AT_LAST)?;
     Ok(steps)
 }
 
@@ -254,7 +254,7 @@ fn whole_answers(rt: HostRuntime) -> Result<(), Fail> {
 }
 
 // An item that is refused, with an error and without one.
-const REFUSED: [Step<'static>; 4] = [
+const REFUSED: &[Step<'static>] = &[
     Step::Put("1", "{}"),
     Step::Put("2", "{}"),
     Step::Sends(&[("1", 1), ("2", 2)]),
@@ -266,7 +266,7 @@ const REFUSED: [Step<'static>; 4] = [
 
 #[test]
 fn refused_items(rt: HostRuntime) -> Result<(), Fail> {
-    assert!(rt; goes(rt.alloc(), CONFIG, &REFUSED, &[(1, 1, 400), (2, 1, 400)])?);
+    assert!(rt; goes(rt.alloc(), CONFIG, REFUSED, &[(1, 1, 400), (2, 1, 400)])?);
     Ok(())
 }
 
@@ -278,7 +278,7 @@ const ONE_ATTEMPT: RelayConfig = RelayConfig {
 
 // Five deletes of 78 bytes and an index that accepts 160: the request is halved, which costs no
 // attempt.
-const HALVED: [Step<'static>; 16] = [
+const HALVED: &[Step<'static>] = &[
     Step::Put("1", ""),
     Step::Put("2", ""),
     Step::Put("3", ""),
@@ -309,7 +309,7 @@ const HALVED: [Step<'static>; 16] = [
 ];
 
 // And with one that accepts 77: each is reported once it is alone.
-const HALVED_AWAY: [Step<'static>; 23] = [
+const HALVED_AWAY: &[Step<'static>] = &[
     Step::Put("1", ""),
     Step::Put("2", ""),
     Step::Put("3", ""),
@@ -340,17 +340,18 @@ const HALVED_AWAY: [Step<'static>; 23] = [
     }),
 ];
 
+const EACH_TOO_LARGE: &[(u64, u8, u32)] = &[
+    (1, 2, 413),
+    (2, 2, 413),
+    (3, 2, 413),
+    (4, 2, 413),
+    (5, 2, 413),
+];
+
 #[test]
 fn requests_too_large(rt: HostRuntime) -> Result<(), Fail> {
-    assert!(rt; goes(rt.alloc(), ONE_ATTEMPT, &HALVED, &[])?);
-    let reports = [
-        (1, 2, 413),
-        (2, 2, 413),
-        (3, 2, 413),
-        (4, 2, 413),
-        (5, 2, 413),
-    ];
-    assert!(rt; goes(rt.alloc(), ONE_ATTEMPT, &HALVED_AWAY, &reports)?);
+    assert!(rt; goes(rt.alloc(), ONE_ATTEMPT, HALVED, &[])?);
+    assert!(rt; goes(rt.alloc(), ONE_ATTEMPT, HALVED_AWAY, EACH_TOO_LARGE)?);
     Ok(())
 }
 
@@ -369,7 +370,7 @@ const BOTH: [Entry<'static>; 2] = [Entry::Index("1", 201), Entry::Index("2", 201
 
 // While a request is in flight, as many operations are gathered as the next one carries, and none
 // if some are left over.
-const GATHERED: [Step<'static>; 27] = [
+const GATHERED: &[Step<'static>] = &[
     Step::Gathers(false),
     Step::SendsNone,
     Step::Gathers(false),
@@ -401,6 +402,6 @@ const GATHERED: [Step<'static>; 27] = [
 
 #[test]
 fn gathered_in_flight(rt: HostRuntime) -> Result<(), Fail> {
-    assert!(rt; goes(rt.alloc(), TWO, &GATHERED, &[(3, 2, 400), (4, 2, 400)])?);
+    assert!(rt; goes(rt.alloc(), TWO, GATHERED, &[(3, 2, 400), (4, 2, 400)])?);
     Ok(())
 }

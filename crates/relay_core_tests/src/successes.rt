@@ -46,10 +46,16 @@ fn forgets(lane: &mut Lane) -> bool {
     lane.successes().is_empty() && lane.reports().len() == 1
 }
 
+// Whether both hold of a lane of its own.
+fn notes_and_forgets(alloc: Global) -> Result<bool, Fail> {
+    let mut lane = lane_of(alloc, CONFIG)?;
+    let noted = notes_statuses(alloc, &mut lane)?;
+    Ok(noted && forgets(&mut lane))
+}
+
 #[test]
 fn successes_have_their_status(rt: HostRuntime) -> Result<(), Fail> {
-    let mut lane = lane_of(rt.alloc(), CONFIG)?;
-    assert!(rt; notes_statuses(rt.alloc(), &mut lane)? && forgets(&mut lane));
+    assert!(rt; notes_and_forgets(rt.alloc())?);
     Ok(())
 }
 
@@ -63,9 +69,14 @@ fn notes_earlier_request(alloc: Global, lane: &mut Lane) -> Result<bool, Fail> {
     Ok(lost && answered && are_noted(lane.successes(), &[(1, 1, None)]))
 }
 
+// The same for a lane of its own.
+fn notes_earlier(alloc: Global) -> Result<bool, Fail> {
+    let mut lane = lane_of(alloc, CONFIG)?;
+    notes_earlier_request(alloc, &mut lane)
+}
+
 #[test]
 fn an_earlier_request_has_no_status(rt: HostRuntime) -> Result<(), Fail> {
-    let mut lane = lane_of(rt.alloc(), CONFIG)?;
-    assert!(rt; notes_earlier_request(rt.alloc(), &mut lane)?);
+    assert!(rt; notes_earlier(rt.alloc())?);
     Ok(())
 }

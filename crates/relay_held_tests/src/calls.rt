@@ -46,13 +46,11 @@ fn sends(desk: &mut Desk, clock: u64, after: After) -> Result<u64, Fail> {
     Ok(version)
 }
 
-// The first operation of a document: version, due tick, cap, sends, attempts, and its place in
-// flight.
-fn first_of(
-    alloc: Global,
-    desk: &Desk,
-    document: u64,
-) -> Result<(u64, u64, u32, u32, u32, Option<Spot>), Fail> {
+// A held operation: version, due tick, cap, sends, attempts, and its place in flight.
+type First = (u64, u64, u32, u32, u32, Option<Spot>);
+
+// The first operation of a document.
+fn first_of(alloc: Global, desk: &Desk, document: u64) -> Result<First, Fail> {
     let key = key_of(alloc, document).ok_or("no key")?;
     match desk.held.first(&key) {
         Some(one) => Ok((
@@ -83,50 +81,127 @@ fn three(alloc: Global) -> Option<Desk> {
     held.then_some(three)
 }
 
-#[test]
-fn who_may_be_sent(rt: HostRuntime) -> Result<(), Fail> {
-    let mut desk = three(rt.alloc()).ok_or("not held")?;
-    assert!(rt; desk.held.len() == 3 && desk.held.documents() == 2);
-    for (clock, wanted, looks) in [(0, [1, 0], 1), (4, [1, 0], 2), (5, [1, 3], 4)] {
-        ticks_to(&mut desk, clock);
-        assert!(rt; desk.held.clock() == clock && desk.held.due_in() == Some(0));
-        assert!(rt; offered(&mut desk) == wanted && desk.held.looks() == looks);
+// At some ticks, which may be sent, and how many looks there were by then.
+const OFFERED: &[(u64, [u64; 2], u64)] = &[(0, [1, 0], 1), (4, [1, 0], 2), (5, [1, 3], 4)];
+
+// Whether each row is so, one after another.
+fn offers_each(desk: &mut Desk, rows: &[(u64, [u64; 2], u64)]) -> bool {
+    for (clock, wanted, looks) in rows {
+        ticks_to(desk, *clock);
+        let due = desk.held.clock() == *clock && desk.held.due_in() == Some(0);
+        if !due || offered(desk) != *wanted || desk.held.looks() != *looks {
+            return false;
+        }
     }
-    Ok(())
+    true
+}
+
+// Whether three are held, and offered so.
+fn offers_three(alloc: Global) -> bool {
+    match three(alloc) {
+        Some(mut desk) => {
+            let held = desk.held.len() == 3 && desk.held.documents() == 2;
+            held && offers_each(&mut desk, OFFERED)
+        }
+        None => false,
+    }
+}
+
+#[test]
+fn who_may_be_sent(rt: HostRuntime) {
+    assert!(rt; offers_three(rt.alloc()));
+}
+
+// A tick at which the first operation is sent, what happens to it then, its version, its document and
+// what that has first, and in how many ticks one is due.
+type Sending = (u64, After, u64, u64, First, u64);
+
+const SENT: &[Sending] = &[
+    (
+        4,
+        After::Flies,
+        1,
+        0,
+        (
+            1,
+            0,
+            10,
+            1,
+            1,
+            Some(Spot {
+                request: 7,
+                place: 2,
+            }),
+        ),
+        1,
+    ),
+    (5, After::Waits(9), 3, 1, (3, 9, 10, 1, 1, None), 4),
+    (9, After::WaitsUnder(9, 4), 3, 1, (3, 9, 4, 2, 1, None), 0),
+];
+
+// Whether each row is so, one after another.
+fn sends_each(alloc: Global, desk: &mut Desk, rows: &[Sending]) -> Result<bool, Fail> {
+    for (clock, after, version, document, first, due) in rows {
+        let sent = sends(desk, *clock, *after)?;
+        let found = first_of(alloc, desk, *document)?;
+        if sent != *version || found != *first || desk.held.due_in() != Some(*due) {
+            return Ok(false);
+        }
+    }
+    Ok(true)
+}
+
+// Whether those of three are sent so.
+fn sends_three(alloc: Global) -> Result<bool, Fail> {
+    match three(alloc) {
+        Some(mut desk) => sends_each(alloc, &mut desk, SENT),
+        None => Ok(false),
+    }
 }
 
 #[test]
 fn sent_and_back(rt: HostRuntime) -> Result<(), Fail> {
-    let alloc = rt.alloc();
-    let mut desk = three(alloc).ok_or("not held")?;
-    assert!(rt; sends(&mut desk, 4, After::Flies)? == 1);
-    let spot = Some(Spot {
-        request: 7,
-        place: 2,
-    });
-    assert!(rt; first_of(alloc, &desk, 0)? == (1, 0, 10, 1, 1, spot));
-    assert!(rt; desk.held.due_in() == Some(1));
-    assert!(rt; sends(&mut desk, 5, After::Waits(9))? == 3);
-    assert!(rt; first_of(alloc, &desk, 1)? == (3, 9, 10, 1, 1, None));
-    assert!(rt; desk.held.due_in() == Some(4));
-    assert!(rt; sends(&mut desk, 9, After::WaitsUnder(9, 4))? == 3);
-    assert!(rt; first_of(alloc, &desk, 1)? == (3, 9, 4, 2, 1, None));
+    assert!(rt; sends_three(rt.alloc())?);
     Ok(())
+}
+
+// A document, the number of the operation that is taken out of it, and how many operations and
+// documents are left.
+const TAKEN: &[(u64, Option<u64>, (usize, usize))] = &[
+    (0, Some(1), (2, 2)),
+    (0, Some(2), (1, 1)),
+    (0, None, (1, 1)),
+    (1, Some(3), (0, 0)),
+];
+
+// Whether each row is so, one after another.
+fn takes_each(
+    alloc: Global,
+    desk: &mut Desk,
+    rows: &[(u64, Option<u64>, (usize, usize))],
+) -> Result<bool, Fail> {
+    for (document, number, left) in rows {
+        let taken = takes(alloc, desk, *document)?;
+        if taken != *number || (desk.held.len(), desk.held.documents()) != *left {
+            return Ok(false);
+        }
+    }
+    Ok(true)
+}
+
+// Whether three are taken out so.
+fn takes_three(alloc: Global) -> Result<bool, Fail> {
+    match three(alloc) {
+        Some(mut desk) => {
+            ticks_to(&mut desk, 5);
+            takes_each(alloc, &mut desk, TAKEN)
+        }
+        None => Ok(false),
+    }
 }
 
 #[test]
 fn taken_out(rt: HostRuntime) -> Result<(), Fail> {
-    let alloc = rt.alloc();
-    let mut desk = three(alloc).ok_or("not held")?;
-    ticks_to(&mut desk, 5);
-    for (document, version, left) in [
-        (0, Some(1), (2, 2)),
-        (0, Some(2), (1, 1)),
-        (0, None, (1, 1)),
-        (1, Some(3), (0, 0)),
-    ] {
-        assert!(rt; takes(alloc, &mut desk, document)? == version);
-        assert!(rt; (desk.held.len(), desk.held.documents()) == left);
-    }
+    assert!(rt; takes_three(rt.alloc())?);
     Ok(())
 }
