@@ -166,6 +166,35 @@ def outages():
     long.join()
 
 
+def refused_until(start, seconds):
+    """A fault of each item: 429 until so many seconds have passed."""
+    return lambda meta: 429 if time.monotonic() - start < seconds else None
+
+
+def given_up_by_age():
+    """With --give-up-after an operation is sent again, whatever failed, until it fails when so long has passed since its first send."""
+    with tempfile.TemporaryDirectory() as folder:
+        path = written(folder, 0, [("1", None)])
+        for plan, refuse, fault in ((lambda number: 503, lambda meta: None, "a whole 503"), (lambda number: None, lambda meta: 429, "an item's 429")):
+            server = Server(plan, refuse)
+            done, spent = timed(server.port, [path], "--give-up-after", "2s", "--linger", "0")
+            told = b"report 0:1 books/1 GaveUp 6\napplied 0 already 0 reported 1\n"
+            check("given up after 2 s: %s" % fault, done[:2] == (5, told) and 3 < spent < 8, (done, spent))
+            server.close()
+        done, spent = timed(free_port(), [path], "--give-up-after", "1", "--linger", "0")
+        check("given up after 1 s: refused connections", done[:2] == (5, GAVE_UP.replace(b"GaveUp 1", b"GaveUp 5")) and 1.4 < spent < 8, (done, spent))
+        server = Silent(2**64)
+        done, spent = timed(server.port, [path], "--give-up-after", "1s", "--timeout", "2", "--linger", "0")
+        check("given up after 1 s: a silent server", done[:2] == (5, GAVE_UP) and 1.9 < spent < 8, (done, spent))
+        server.close()
+        ops = operations(0, 300, 30)
+        server = Server(refuse=refused_until(time.monotonic(), 15))
+        done, spent = timed(server.port, [written(folder, 0, ops)], "--give-up-after", "never", "--count", "20", "--linger", "0")
+        judge("never given up", server, [ops], done)
+        check("never given up: all is applied", done[0] == 0 and done[1].endswith(b" reported 0\n") and spent > 14, (done[1][-200:], spent))
+        server.close()
+
+
 def server_that_is_not_there_yet():
     """A run that is started before its index waits for the index."""
     with tempfile.TemporaryDirectory() as folder:
@@ -220,9 +249,13 @@ def usage():
         (["--linger", "65536"], b"'65536' for '--linger <DURATION>': not a number of ms, s, m or h from 0 to 6553500ms, or 0 to 65535 ticks"),
         (["--linger", "6553501ms"], b"6553501ms"),
         (["--linger", "110m"], b"110m"),
+        (["--give-up-after", "0"], b"'0' for '--give-up-after <DURATION>': neither `never` nor a number of ms, s, m or h from 1s to 168h, or of seconds"),
+        (["--give-up-after", "169h"], b"'169h'"),
+        (["--give-up-after", "Never"], b"'Never'"),
+        (["--give-up-after", "1s", "--attempts", "3"], b"cannot be used with"),
     ):
         done = subprocess.run([RELAY, "run", "--to", "x:1", *args, "file"], stdin=subprocess.DEVNULL, capture_output=True, timeout=60)
         check("usage: run %s" % args, done.returncode == 1 and said in done.stderr and done.stdout == b"", (done.returncode, done.stderr))
 
 
-GROUPS = (silent_servers, dripping_servers, connections_that_are_not_made, patience_that_ends, outages, server_that_is_not_there_yet, killed_while_it_waits, usage)
+GROUPS = (silent_servers, dripping_servers, connections_that_are_not_made, patience_that_ends, given_up_by_age, outages, server_that_is_not_there_yet, killed_while_it_waits, usage)

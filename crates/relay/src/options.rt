@@ -2,6 +2,7 @@
 use clap::builder::ValueParser;
 use clap::{Arg, ArgAction, ArgMatches};
 use relay_action::DocKey;
+use relay_core::config::{AGE_LIMIT, ATTEMPTS_UNLIMITED};
 use relay_target::read_name;
 use relay_words::{Exit, duration_of};
 use std::alloc::{AllocError, Global};
@@ -42,6 +43,20 @@ pub struct DurationOption {
     pub help: &'static str,
     pub range: &'static str,
 }
+
+/// How often an operation that fails is sent again, and for how many ticks since its first send.
+#[derive(Clone, Copy)]
+pub struct Retries {
+    pub attempts: u32,
+    pub give_up_after: Option<u32>,
+}
+
+/// How long an operation that fails is sent again.
+pub const GIVE_UP_AFTER: TextOption = TextOption {
+    name: "give-up-after",
+    value: "DURATION",
+    help: "Send an operation that fails again until so long has passed since it was first sent, rounded up to seconds, 1s to 168h; a bare number counts seconds. never: without end",
+};
 
 /// The address of the index.
 pub const TO: TextOption = TextOption {
@@ -144,6 +159,34 @@ impl DurationOption {
                 );
                 Err(Exit::Usage)
             }
+        }
+    }
+}
+
+// The ticks in a second.
+const TICKS: u64 = 10;
+
+/// What the value of the option for how long an operation is sent again says. If it is neither `never`
+/// nor a length of time, or too short or too long, prints so, and returns the exit status.
+pub fn read_retries<R: Eprint>(rt: &R, word: &str) -> Result<Retries, Exit> {
+    if word == "never" {
+        return Ok(Retries {
+            attempts: ATTEMPTS_UNLIMITED,
+            give_up_after: None,
+        });
+    }
+    let ticks = duration_of(word, 1_000).and_then(|seconds| seconds.checked_mul(TICKS));
+    match ticks.and_then(|ticks| u32::try_from(ticks).ok()) {
+        Some(ticks) if 0 < ticks && ticks <= AGE_LIMIT => Ok(Retries {
+            attempts: ATTEMPTS_UNLIMITED,
+            give_up_after: Some(ticks),
+        }),
+        _ => {
+            let name = GIVE_UP_AFTER.name;
+            let _ = eprintln!(rt;
+                "error: invalid value '{word}' for '--{name} <DURATION>': neither `never` nor a number of ms, s, m or h from 1s to 168h, or of seconds"
+            );
+            Err(Exit::Usage)
         }
     }
 }

@@ -209,6 +209,7 @@ pub fn measure<R: Clock>(
             linger: 0,
         },
         attempts: 3,
+        give_up_after: None,
         in_flight: 1,
         epoch: 0,
         deal: 1_099_511_627_775,

@@ -47,11 +47,11 @@ front_of s f hs items held rises e =
       ones = ap (λ n. map item_of_kept (take n cs)) len ∙ sym is;
     }
 
-pub length_launched : (n : ℕ) (hs : List Kept) (p : ℕ) (is : List BatchItem) → length (launched_kept hs n p is) ≡ length hs
-length_launched n [] p is = refl
-length_launched n (h ∷ hs) p is = ⊎_elim {C = length (launched_kept (h ∷ hs) n p is) ≡ length (h ∷ hs)}
-    (λ t. rw t (ap suc (length_launched n hs (p + 1) (drop 1 is))))
-    (λ f. rw f (ap suc (length_launched n hs p is)))
+pub length_launched : (clock n : ℕ) (hs : List Kept) (p : ℕ) (is : List BatchItem) → length (launched_kept clock hs n p is) ≡ length hs
+length_launched clock n [] p is = refl
+length_launched clock n (h ∷ hs) p is = ⊎_elim {C = length (launched_kept clock (h ∷ hs) n p is) ≡ length (h ∷ hs)}
+    (λ t. rw t (ap suc (length_launched clock n hs (p + 1) (drop 1 is))))
+    (λ f. rw f (ap suc (length_launched clock n hs p is)))
     (true_or_false (is_next is h))
 
 -- ---- what is to be sent now

@@ -114,49 +114,49 @@ not_next : (v : ℕ) (x : Kept) (is : List BatchItem) → x.version < v → Next
 not_next v x [] lt a = refl
 not_next v x (i ∷ is) lt a = ap (λ b. b && waits_here x.flies) (⊎_elim {C = (x.version == i.version) ≡ false} (λ t. let e = equal x.version i.version t in absurd (omega (arith, lt, e, a))) (λ f. f) (true_or_false (x.version == i.version)))
 
-flies_now : (n p : ℕ) (h : Kept) (is : List BatchItem) → is_next is (launch_one n p h) ≡ false
-flies_now n p h [] = refl
-flies_now n p h (i ∷ is) = none (h.version == i.version)
+flies_now : (clock n p : ℕ) (h : Kept) (is : List BatchItem) → is_next is (launch_one clock n p h) ≡ false
+flies_now clock n p h [] = refl
+flies_now clock n p h (i ∷ is) = none (h.version == i.version)
   where
     none : (b : Bool) → (b && false) ≡ false
     none true = refl
     none false = refl
 
-module _ (n p : ℕ) (k : DocKey) (h : Kept) (is : List BatchItem) (waits : h.flies ≡ None) (above : NextAbove h.version is) where
-  pub launched_step : (hs : List Kept) → Rises hs → first_of k hs ≡ Some h → launched_kept hs n p (item_of_kept h ∷ is) ≡ launched_kept (with_first k (launch_one n p) hs) n (p + 1) is
+module _ (clock n p : ℕ) (k : DocKey) (h : Kept) (is : List BatchItem) (waits : h.flies ≡ None) (above : NextAbove h.version is) where
+  pub launched_step : (hs : List Kept) → Rises hs → first_of k hs ≡ Some h → launched_kept clock hs n p (item_of_kept h ∷ is) ≡ launched_kept clock (with_first k (launch_one clock n p) hs) n (p + 1) is
   launched_step [] r e = absurd (cc)
-  launched_step (x ∷ hs) r e = ⊎_elim {C = launched_kept (x ∷ hs) n p (item_of_kept h ∷ is) ≡ launched_kept (with_first k (launch_one n p) (x ∷ hs)) n (p + 1) is}
+  launched_step (x ∷ hs) r e = ⊎_elim {C = launched_kept clock (x ∷ hs) n p (item_of_kept h ∷ is) ≡ launched_kept clock (with_first k (launch_one clock n p) (x ∷ hs)) n (p + 1) is}
       (λ t. let same : x ≡ h = some_same x h (sym (ap (λ b. if b then Some x else first_of k hs) t) ∙ e) in
-      ap (λ b. if b then launch_one n p x ∷ launched_kept hs n (p + 1) is else x ∷ launched_kept hs n p (item_of_kept h ∷ is)) (ap (λ (y : Kept). is_next (item_of_kept h ∷ is) y) same ∙ is_it h is waits)
-      ∙ sym (ap (λ b. if b then launch_one n (p + 1) (launch_one n p x) ∷ launched_kept hs n (p + 1 + 1) (drop 1 is) else launch_one n p x ∷ launched_kept hs n (p + 1) is) (flies_now n p x is))
-      ∙ ap (λ zs. launched_kept zs n (p + 1) is) (sym (ap (λ b. if b then launch_one n p x ∷ hs else x ∷ with_first k (launch_one n p) hs) t)))
+      ap (λ b. if b then launch_one clock n p x ∷ launched_kept clock hs n (p + 1) is else x ∷ launched_kept clock hs n p (item_of_kept h ∷ is)) (ap (λ (y : Kept). is_next (item_of_kept h ∷ is) y) same ∙ is_it h is waits)
+      ∙ sym (ap (λ b. if b then launch_one clock n (p + 1) (launch_one clock n p x) ∷ launched_kept clock hs n (p + 1 + 1) (drop 1 is) else launch_one clock n p x ∷ launched_kept clock hs n (p + 1) is) (flies_now clock n p x is))
+      ∙ ap (λ zs. launched_kept clock zs n (p + 1) is) (sym (ap (λ b. if b then launch_one clock n p x ∷ hs else x ∷ with_first k (launch_one clock n p) hs) t)))
       (λ f. let e' = sym (ap (λ b. if b then Some x else first_of k hs) f) ∙ e in
       let lt = above_mem x.version hs h r.0 (first_mem k hs h e').0 in
-      ap (λ b. if b then launch_one n p x ∷ launched_kept hs n (p + 1) is else x ∷ launched_kept hs n p (item_of_kept h ∷ is)) (not_it h x is lt)
+      ap (λ b. if b then launch_one clock n p x ∷ launched_kept clock hs n (p + 1) is else x ∷ launched_kept clock hs n p (item_of_kept h ∷ is)) (not_it h x is lt)
       ∙ ap (λ zs. x ∷ zs) (launched_step hs r.1 e')
-      ∙ sym (ap (λ b. if b then launch_one n (p + 1) x ∷ launched_kept (with_first k (launch_one n p) hs) n (p + 1 + 1) (drop 1 is) else x ∷ launched_kept (with_first k (launch_one n p) hs) n (p + 1) is) (not_next h.version x is lt above))
-      ∙ ap (λ zs. launched_kept zs n (p + 1) is) (sym (ap (λ b. if b then launch_one n p x ∷ hs else x ∷ with_first k (launch_one n p) hs) f)))
+      ∙ sym (ap (λ b. if b then launch_one clock n (p + 1) x ∷ launched_kept clock (with_first k (launch_one clock n p) hs) n (p + 1 + 1) (drop 1 is) else x ∷ launched_kept clock (with_first k (launch_one clock n p) hs) n (p + 1) is) (not_next h.version x is lt above))
+      ∙ ap (λ zs. launched_kept clock zs n (p + 1) is) (sym (ap (λ b. if b then launch_one clock n p x ∷ hs else x ∷ with_first k (launch_one clock n p) hs) f)))
       (true_or_false (is_of k x))
 
-  pub freight_step : (hs : List Kept) → Rises hs → first_of k hs ≡ Some h → freight hs (item_of_kept h ∷ is) ≡ option_to_list h.write ++ freight (with_first k (launch_one n p) hs) is
+  pub freight_step : (hs : List Kept) → Rises hs → first_of k hs ≡ Some h → freight hs (item_of_kept h ∷ is) ≡ option_to_list h.write ++ freight (with_first k (launch_one clock n p) hs) is
   freight_step [] r e = absurd (cc)
-  freight_step (x ∷ hs) r e = ⊎_elim {C = freight (x ∷ hs) (item_of_kept h ∷ is) ≡ option_to_list h.write ++ freight (with_first k (launch_one n p) (x ∷ hs)) is}
+  freight_step (x ∷ hs) r e = ⊎_elim {C = freight (x ∷ hs) (item_of_kept h ∷ is) ≡ option_to_list h.write ++ freight (with_first k (launch_one clock n p) (x ∷ hs)) is}
       (λ t. let same : x ≡ h = some_same x h (sym (ap (λ b. if b then Some x else first_of k hs) t) ∙ e) in
       ap (λ b. if b then option_to_list x.write ++ freight hs is else freight hs (item_of_kept h ∷ is)) (ap (λ (y : Kept). is_next (item_of_kept h ∷ is) y) same ∙ is_it h is waits)
       ∙ ap (λ (y : Kept). option_to_list y.write ++ freight hs is) same
-      ∙ ap (λ ws. option_to_list h.write ++ ws) (sym (ap (λ b. if b then option_to_list (launch_one n p x).write ++ freight hs (drop 1 is) else freight hs is) (flies_now n p x is))
-      ∙ ap (λ zs. freight zs is) (sym (ap (λ b. if b then launch_one n p x ∷ hs else x ∷ with_first k (launch_one n p) hs) t))))
+      ∙ ap (λ ws. option_to_list h.write ++ ws) (sym (ap (λ b. if b then option_to_list (launch_one clock n p x).write ++ freight hs (drop 1 is) else freight hs is) (flies_now clock n p x is))
+      ∙ ap (λ zs. freight zs is) (sym (ap (λ b. if b then launch_one clock n p x ∷ hs else x ∷ with_first k (launch_one clock n p) hs) t))))
       (λ f. let e' = sym (ap (λ b. if b then Some x else first_of k hs) f) ∙ e in
       let lt = above_mem x.version hs h r.0 (first_mem k hs h e').0 in
       ap (λ b. if b then option_to_list x.write ++ freight hs is else freight hs (item_of_kept h ∷ is)) (not_it h x is lt)
       ∙ freight_step hs r.1 e'
-      ∙ ap (λ ws. option_to_list h.write ++ ws) (sym (ap (λ b. if b then option_to_list x.write ++ freight (with_first k (launch_one n p) hs) (drop 1 is) else freight (with_first k (launch_one n p) hs) is) (not_next h.version x is lt above))
-      ∙ ap (λ zs. freight zs is) (sym (ap (λ b. if b then launch_one n p x ∷ hs else x ∷ with_first k (launch_one n p) hs) f))))
+      ∙ ap (λ ws. option_to_list h.write ++ ws) (sym (ap (λ b. if b then option_to_list x.write ++ freight (with_first k (launch_one clock n p) hs) (drop 1 is) else freight (with_first k (launch_one clock n p) hs) is) (not_next h.version x is lt above))
+      ∙ ap (λ zs. freight zs is) (sym (ap (λ b. if b then launch_one clock n p x ∷ hs else x ∷ with_first k (launch_one clock n p) hs) f))))
       (true_or_false (is_of k x))
 
-pub launched_none : (hs : List Kept) (n p : ℕ) → launched_kept hs n p [] ≡ hs
-launched_none [] n p = refl
-launched_none (h ∷ hs) n p = ap (λ zs. h ∷ zs) (launched_none hs n p)
+pub launched_none : (clock : ℕ) (hs : List Kept) (n p : ℕ) → launched_kept clock hs n p [] ≡ hs
+launched_none clock [] n p = refl
+launched_none clock (h ∷ hs) n p = ap (λ zs. h ∷ zs) (launched_none clock hs n p)
 
 pub freight_none : (hs : List Kept) → freight hs [] ≡ []
 freight_none [] = refl
@@ -210,13 +210,13 @@ its_first hs clock h r e =
 
 -- the first of them is sent: the others may still go
 pub candidates_next : (hs : List Kept) (clock number place : ℕ) (h : Kept) → Rises hs → slice_get (candidates_kept hs clock) 0 ≡ Some h
-    → candidates_kept (with_first h.key (launch_one number place) hs) clock ≡ drop 1 (candidates_kept hs clock)
+    → candidates_kept (with_first h.key (launch_one clock number place) hs) clock ≡ drop 1 (candidates_kept hs clock)
 candidates_next hs clock number place h r e =
-    let f = launch_one number place in
+    let f = launch_one clock number place in
     let k = h.key in
     let mem = Mem-filter (is_candidate_kept hs clock) h hs (get_mem (candidates_kept hs clock) h e) in
     filter_same (is_candidate_kept (with_first k f hs) clock) (is_candidate_kept hs clock) (with_first k f hs)
-    (λ x. ap (λ b. waits_here x.flies && (nat_le x.due clock && not b)) (later_with k f hs (document_of x.key) x.version (launch_keeps number place)))
+    (λ x. ap (λ b. waits_here x.flies && (nat_le x.due clock && not b)) (later_with k f hs (document_of x.key) x.version (launch_keeps clock number place)))
     ∙ without_it (is_candidate_kept hs clock) k f h hs mem.1 refl (same_self k) (its_first hs clock h r e) e
   where
     get_mem : (cs : List Kept) (x : Kept) → slice_get cs 0 ≡ Some x → Mem x cs

@@ -56,31 +56,31 @@ rises_met clock Retried h (Some w) rest a r = (a, r)
 rises_met clock (Halved cap) h (Some w) rest a r = (a, r)
 rises_met clock (Reported c) h (Some w) rest a r = r
 
-module _ (max clock n : ℕ) (whole : Way) where
+module _ (allowed : Kept → ℕ) (clock n : ℕ) (whole : Way) where
   step : Kept → List Kept → List Write → List Outcome → Bool → List Kept
-  step h hs ws os b = if b then met_maybe clock (fate_met max whole h os) (slice_get ws 0) (h ∷ []) ++ kept_walk hs max clock n whole (drop 1 ws) (drop 1 os) else h ∷ kept_walk hs max clock n whole ws os
+  step h hs ws os b = if b then met_maybe clock (fate_met allowed whole h os) (slice_get ws 0) (h ∷ []) ++ kept_walk hs allowed clock n whole (drop 1 ws) (drop 1 os) else h ∷ kept_walk hs allowed clock n whole ws os
 
-  pub above_walk : (v : ℕ) (hs : List Kept) (ws : List Write) (os : List Outcome) → AllAbove v hs → AllAbove v (kept_walk hs max clock n whole ws os)
+  pub above_walk : (v : ℕ) (hs : List Kept) (ws : List Write) (os : List Outcome) → AllAbove v hs → AllAbove v (kept_walk hs allowed clock n whole ws os)
   unfolding step
   above_walk v [] ws os a = tt
-  above_walk v (h ∷ hs) ws os a = ⊎_elim {C = AllAbove v (kept_walk (h ∷ hs) max clock n whole ws os)}
-      (λ t. subst (λ b. AllAbove v (step h hs ws os b)) (sym t) (above_met clock v (fate_met max whole h os) h (slice_get ws 0) _ a.0 (above_walk v hs (drop 1 ws) (drop 1 os) a.1)))
+  above_walk v (h ∷ hs) ws os a = ⊎_elim {C = AllAbove v (kept_walk (h ∷ hs) allowed clock n whole ws os)}
+      (λ t. subst (λ b. AllAbove v (step h hs ws os b)) (sym t) (above_met clock v (fate_met allowed whole h os) h (slice_get ws 0) _ a.0 (above_walk v hs (drop 1 ws) (drop 1 os) a.1)))
       (λ t. subst (λ b. AllAbove v (step h hs ws os b)) (sym t) (a.0, above_walk v hs ws os a.1))
       (true_or_false (flies_here n h.flies))
 
-  pub under_walk : (v : ℕ) (hs : List Kept) (ws : List Write) (os : List Outcome) → AllUnder v hs → AllUnder v (kept_walk hs max clock n whole ws os)
+  pub under_walk : (v : ℕ) (hs : List Kept) (ws : List Write) (os : List Outcome) → AllUnder v hs → AllUnder v (kept_walk hs allowed clock n whole ws os)
   unfolding step
   under_walk v [] ws os a = tt
-  under_walk v (h ∷ hs) ws os a = ⊎_elim {C = AllUnder v (kept_walk (h ∷ hs) max clock n whole ws os)}
-      (λ t. subst (λ b. AllUnder v (step h hs ws os b)) (sym t) (under_met clock v (fate_met max whole h os) h (slice_get ws 0) _ a.0 (under_walk v hs (drop 1 ws) (drop 1 os) a.1)))
+  under_walk v (h ∷ hs) ws os a = ⊎_elim {C = AllUnder v (kept_walk (h ∷ hs) allowed clock n whole ws os)}
+      (λ t. subst (λ b. AllUnder v (step h hs ws os b)) (sym t) (under_met clock v (fate_met allowed whole h os) h (slice_get ws 0) _ a.0 (under_walk v hs (drop 1 ws) (drop 1 os) a.1)))
       (λ t. subst (λ b. AllUnder v (step h hs ws os b)) (sym t) (a.0, under_walk v hs ws os a.1))
       (true_or_false (flies_here n h.flies))
 
-  pub rises_walk : (hs : List Kept) (ws : List Write) (os : List Outcome) → Rises hs → Rises (kept_walk hs max clock n whole ws os)
+  pub rises_walk : (hs : List Kept) (ws : List Write) (os : List Outcome) → Rises hs → Rises (kept_walk hs allowed clock n whole ws os)
   unfolding step
   rises_walk [] ws os r = tt
-  rises_walk (h ∷ hs) ws os r = ⊎_elim {C = Rises (kept_walk (h ∷ hs) max clock n whole ws os)}
-      (λ t. subst (λ b. Rises (step h hs ws os b)) (sym t) (rises_met clock (fate_met max whole h os) h (slice_get ws 0) _ (above_walk h.version hs (drop 1 ws) (drop 1 os) r.0) (rises_walk hs (drop 1 ws) (drop 1 os) r.1)))
+  rises_walk (h ∷ hs) ws os r = ⊎_elim {C = Rises (kept_walk (h ∷ hs) allowed clock n whole ws os)}
+      (λ t. subst (λ b. Rises (step h hs ws os b)) (sym t) (rises_met clock (fate_met allowed whole h os) h (slice_get ws 0) _ (above_walk h.version hs (drop 1 ws) (drop 1 os) r.0) (rises_walk hs (drop 1 ws) (drop 1 os) r.1)))
       (λ t. subst (λ b. Rises (step h hs ws os b)) (sym t) (above_walk h.version hs ws os r.0, rises_walk hs ws os r.1))
       (true_or_false (flies_here n h.flies))
 
@@ -126,19 +126,19 @@ way_halves (way.Halved n) len f h none half room cap e =
     let same : n ≡ cap = cc in
     subst (λ x. halvings x + 1 ≤ halvings h.cap) same (subst (λ x. halvings x + 1 ≤ halvings h.cap) (sym half.1) l)
 
-falls_here : (max len : ℕ) (whole : Way) (h : Kept) (os : List Outcome) → IsHalf whole len → (1 < len → len ≤ h.cap) → Falls (fate_met max whole h os) h
-falls_here max len whole h os half room =
-    way_halves whole len (fate_of_entry (record { version = h.version; sends = h.sends; attempts = h.attempts; max = max }) h.kind (slice_get os 0)) h (entry_halves (record { version = h.version; sends = h.sends; attempts = h.attempts; max = max }) h.kind (slice_get os 0)) half room
+falls_here : (allowed : Kept → ℕ) (len : ℕ) (whole : Way) (h : Kept) (os : List Outcome) → IsHalf whole len → (1 < len → len ≤ h.cap) → Falls (fate_met allowed whole h os) h
+falls_here allowed len whole h os half room =
+    way_halves whole len (fate_of_entry (record { version = h.version; sends = h.sends; attempts = h.attempts; max = allowed h }) h.kind (slice_get os 0)) h (entry_halves (record { version = h.version; sends = h.sends; attempts = h.attempts; max = allowed h }) h.kind (slice_get os 0)) half room
 
 -- an answer leaves no more tries
-pub left_walk : (max clock n len : ℕ) (whole : Way) (hs : List Kept) (ws : List Write) (os : List Outcome) → IsHalf whole len → HasRoom n len hs → tries_left max (kept_walk hs max clock n whole ws os) ≤ tries_left max hs
-left_walk max clock n len whole [] ws os half r = omega arith
-left_walk max clock n len whole (h ∷ hs) ws os half r = ⊎_elim {C = tries_left max (kept_walk (h ∷ hs) max clock n whole ws os) ≤ tries_left max (h ∷ hs)}
-    (λ t. let e = ap (λ b. tries_left max (if b then met_maybe clock (fate_met max whole h os) (slice_get ws 0) (h ∷ []) ++ kept_walk hs max clock n whole (drop 1 ws) (drop 1 os) else h ∷ kept_walk hs max clock n whole ws os)) t in
-    let m = left_met clock max (fate_met max whole h os) h (slice_get ws 0) (kept_walk hs max clock n whole (drop 1 ws) (drop 1 os)) (falls_here max len whole h os half (subst (λ b. Given b (1 < len → len ≤ h.cap)) t r.0)) in
-    let ih = left_walk max clock n len whole hs (drop 1 ws) (drop 1 os) half r.1 in omega (arith, e, m, ih))
-    (λ t. let e = ap (λ b. tries_left max (if b then met_maybe clock (fate_met max whole h os) (slice_get ws 0) (h ∷ []) ++ kept_walk hs max clock n whole (drop 1 ws) (drop 1 os) else h ∷ kept_walk hs max clock n whole ws os)) t in
-    let ih = left_walk max clock n len whole hs ws os half r.1 in omega (arith, e, ih))
+pub left_walk : (allowed : Kept → ℕ) (max clock n len : ℕ) (whole : Way) (hs : List Kept) (ws : List Write) (os : List Outcome) → IsHalf whole len → HasRoom n len hs → tries_left max (kept_walk hs allowed clock n whole ws os) ≤ tries_left max hs
+left_walk allowed max clock n len whole [] ws os half r = omega arith
+left_walk allowed max clock n len whole (h ∷ hs) ws os half r = ⊎_elim {C = tries_left max (kept_walk (h ∷ hs) allowed clock n whole ws os) ≤ tries_left max (h ∷ hs)}
+    (λ t. let e = ap (λ b. tries_left max (if b then met_maybe clock (fate_met allowed whole h os) (slice_get ws 0) (h ∷ []) ++ kept_walk hs allowed clock n whole (drop 1 ws) (drop 1 os) else h ∷ kept_walk hs allowed clock n whole ws os)) t in
+    let m = left_met clock max (fate_met allowed whole h os) h (slice_get ws 0) (kept_walk hs allowed clock n whole (drop 1 ws) (drop 1 os)) (falls_here allowed len whole h os half (subst (λ b. Given b (1 < len → len ≤ h.cap)) t r.0)) in
+    let ih = left_walk allowed max clock n len whole hs (drop 1 ws) (drop 1 os) half r.1 in omega (arith, e, m, ih))
+    (λ t. let e = ap (λ b. tries_left max (if b then met_maybe clock (fate_met allowed whole h os) (slice_get ws 0) (h ∷ []) ++ kept_walk hs allowed clock n whole (drop 1 ws) (drop 1 os) else h ∷ kept_walk hs allowed clock n whole ws os)) t in
+    let ih = left_walk allowed max clock n len whole hs ws os half r.1 in omega (arith, e, ih))
     (true_or_false (flies_here n h.flies))
 
 verdict_retry : (a b c d e f : Bool) → (if a then verdict.Applied else if b then verdict.Applied else if c then verdict.Already else if d then verdict.Conflict else if e then verdict.Retry else if f then verdict.GaveUp else verdict.Refused) ≡ verdict.Retry → e ≡ true
@@ -219,22 +219,22 @@ most_tries max next n p h (Some w) (Some s) k e = absurd k
 most_tries max next n p h None None k e = absurd k
 most_tries max next n p h None (Some s) k e = k.2
 
-pub all_kept_walk : (max clock n next len : ℕ) → 0 < max → clock ≤ 18446744073709551615 → (whole : Way) → IsHalf whole len → (hs : List Kept) (p : ℕ) (ws : List Write) (os : List Outcome) → HasRoom n len hs → Carries n p hs ws → AllKept max next hs → AllKept max next (kept_walk hs max clock n whole ws os)
-all_kept_walk max clock n next len some ends whole half [] p ws os r c k = tt
-all_kept_walk max clock n next len some ends whole half (h ∷ hs) p ws os r c k = ⊎_elim {C = AllKept max next (kept_walk (h ∷ hs) max clock n whole ws os)}
+pub all_kept_walk : (allowed : Kept → ℕ) (max clock n next len : ℕ) → ((h : Kept) → allowed h ≤ max) → 0 < max → clock ≤ 18446744073709551615 → (whole : Way) → IsHalf whole len → (hs : List Kept) (p : ℕ) (ws : List Write) (os : List Outcome) → HasRoom n len hs → Carries n p hs ws → AllKept max next hs → AllKept max next (kept_walk hs allowed clock n whole ws os)
+all_kept_walk allowed max clock n next len within some ends whole half [] p ws os r c k = tt
+all_kept_walk allowed max clock n next len within some ends whole half (h ∷ hs) p ws os r c k = ⊎_elim {C = AllKept max next (kept_walk (h ∷ hs) allowed clock n whole ws os)}
     (λ t.
     let m : IsMet n p h ws = subst (λ b. Given b (IsMet n p h ws)) t c.0 in
     let more : Carries n (p + 1) hs (drop 1 ws) = subst (λ vs. Carries n (p + 1) hs vs) (rest_drop ws) (subst (λ b. Carries n (further b p) hs (rest_if b ws)) t c.1) in
-    let x = fate_met max whole h os in
-    let rest = kept_walk hs max clock n whole (drop 1 ws) (drop 1 os) in
-    subst (λ b. AllKept max next (if b then met_maybe clock x (slice_get ws 0) (h ∷ []) ++ rest else h ∷ kept_walk hs max clock n whole ws os)) (sym t)
+    let x = fate_met allowed whole h os in
+    let rest = kept_walk hs allowed clock n whole (drop 1 ws) (drop 1 os) in
+    subst (λ b. AllKept max next (if b then met_maybe clock x (slice_get ws 0) (h ∷ []) ++ rest else h ∷ kept_walk hs allowed clock n whole ws os)) (sym t)
     (subst (λ o. AllKept max next (met_maybe clock x o (h ∷ []) ++ rest)) (sym (ap (λ xs. slice_get xs 0) m.found))
-    (met_kept max next clock ends x h m.write rest k.0 m.matches (retried_tries (record { version = h.version; sends = h.sends; attempts = h.attempts; max = max }) h.kind whole (slice_get os 0)) some (most_tries max next n p h h.write h.flies k.0.home m.spot)
-    (falls_here max len whole h os half (subst (λ b. Given b (1 < len → len ≤ h.cap)) t r.0)) (all_kept_walk max clock n next len some ends whole half hs (p + 1) (drop 1 ws) (drop 1 os) r.1 more k.1))))
+    (met_kept max next clock ends x h m.write rest k.0 m.matches (λ e. let lt = retried_tries (record { version = h.version; sends = h.sends; attempts = h.attempts; max = allowed h }) h.kind whole (slice_get os 0) e in let l = within h in omega (arith, lt, l)) some (most_tries max next n p h h.write h.flies k.0.home m.spot)
+    (falls_here allowed len whole h os half (subst (λ b. Given b (1 < len → len ≤ h.cap)) t r.0)) (all_kept_walk allowed max clock n next len within some ends whole half hs (p + 1) (drop 1 ws) (drop 1 os) r.1 more k.1))))
     (λ t.
     let more : Carries n p hs ws = subst (λ b. Carries n (further b p) hs (rest_if b ws)) t c.1 in
-    subst (λ b. AllKept max next (if b then met_maybe clock (fate_met max whole h os) (slice_get ws 0) (h ∷ []) ++ kept_walk hs max clock n whole (drop 1 ws) (drop 1 os) else h ∷ kept_walk hs max clock n whole ws os)) (sym t)
-    (k.0, all_kept_walk max clock n next len some ends whole half hs p ws os r.1 more k.1))
+    subst (λ b. AllKept max next (if b then met_maybe clock (fate_met allowed whole h os) (slice_get ws 0) (h ∷ []) ++ kept_walk hs allowed clock n whole (drop 1 ws) (drop 1 os) else h ∷ kept_walk hs allowed clock n whole ws os)) (sym t)
+    (k.0, all_kept_walk allowed max clock n next len within some ends whole half hs p ws os r.1 more k.1))
     (true_or_false (flies_here n h.flies))
 
 none_met : (n p clock : ℕ) (x : Fate) (h : Kept) (w : Option Write) (rest : List Kept) → settles x ≡ true → Carries n p rest [] → Carries n p (met_maybe clock x w (h ∷ []) ++ rest) []
@@ -246,24 +246,24 @@ none_met n p clock Retried h (Some w) rest t c = (tt, c)
 none_met n p clock (Halved cap) h (Some w) rest t c = (tt, c)
 none_met n p clock (Reported cause) h (Some w) rest t c = c
 
-pub carries_none : (max clock n : ℕ) (whole : Way) (hs : List Kept) (p : ℕ) (ws : List Write) (os : List Outcome) → Carries n p (kept_walk hs max clock n whole ws os) []
-carries_none max clock n whole [] p ws os = refl
-carries_none max clock n whole (h ∷ hs) p ws os = ⊎_elim {C = Carries n p (kept_walk (h ∷ hs) max clock n whole ws os) []}
+pub carries_none : (allowed : Kept → ℕ) (clock n : ℕ) (whole : Way) (hs : List Kept) (p : ℕ) (ws : List Write) (os : List Outcome) → Carries n p (kept_walk hs allowed clock n whole ws os) []
+carries_none allowed clock n whole [] p ws os = refl
+carries_none allowed clock n whole (h ∷ hs) p ws os = ⊎_elim {C = Carries n p (kept_walk (h ∷ hs) allowed clock n whole ws os) []}
     (λ t.
-    subst (λ b. Carries n p (if b then met_maybe clock (fate_met max whole h os) (slice_get ws 0) (h ∷ []) ++ kept_walk hs max clock n whole (drop 1 ws) (drop 1 os) else h ∷ kept_walk hs max clock n whole ws os) []) (sym t)
-    (none_met n p clock (fate_met max whole h os) h (slice_get ws 0) _ (met_ends max whole h os) (carries_none max clock n whole hs p (drop 1 ws) (drop 1 os))))
+    subst (λ b. Carries n p (if b then met_maybe clock (fate_met allowed whole h os) (slice_get ws 0) (h ∷ []) ++ kept_walk hs allowed clock n whole (drop 1 ws) (drop 1 os) else h ∷ kept_walk hs allowed clock n whole ws os) []) (sym t)
+    (none_met n p clock (fate_met allowed whole h os) h (slice_get ws 0) _ (met_ends allowed whole h os) (carries_none allowed clock n whole hs p (drop 1 ws) (drop 1 os))))
     (λ t.
-    subst (λ b. Carries n p (if b then met_maybe clock (fate_met max whole h os) (slice_get ws 0) (h ∷ []) ++ kept_walk hs max clock n whole (drop 1 ws) (drop 1 os) else h ∷ kept_walk hs max clock n whole ws os) []) (sym t)
-    (subst (λ b. Given b (IsMet n p h []) × Carries n (further b p) (kept_walk hs max clock n whole ws os) (rest_if b [])) (sym t) (tt, carries_none max clock n whole hs p ws os)))
+    subst (λ b. Carries n p (if b then met_maybe clock (fate_met allowed whole h os) (slice_get ws 0) (h ∷ []) ++ kept_walk hs allowed clock n whole (drop 1 ws) (drop 1 os) else h ∷ kept_walk hs allowed clock n whole ws os) []) (sym t)
+    (subst (λ b. Given b (IsMet n p h []) × Carries n (further b p) (kept_walk hs allowed clock n whole ws os) (rest_if b [])) (sym t) (tt, carries_none allowed clock n whole hs p ws os)))
     (true_or_false (flies_here n h.flies))
 
-pub carries_after : (max clock n : ℕ) (whole : Way) (hs : List Kept) (ws : List Write) (os : List Outcome) (fs : List Request) → ((m : ℕ) → Carries m 0 hs (writes_in fs m)) → (m : ℕ) → Carries m 0 (kept_walk hs max clock n whole ws os) (writes_in (others n fs) m)
-carries_after max clock n whole hs ws os fs all m = ⊎_elim {C = Carries m 0 (kept_walk hs max clock n whole ws os) (writes_in (others n fs) m)}
+pub carries_after : (allowed : Kept → ℕ) (clock n : ℕ) (whole : Way) (hs : List Kept) (ws : List Write) (os : List Outcome) (fs : List Request) → ((m : ℕ) → Carries m 0 hs (writes_in fs m)) → (m : ℕ) → Carries m 0 (kept_walk hs allowed clock n whole ws os) (writes_in (others n fs) m)
+carries_after allowed clock n whole hs ws os fs all m = ⊎_elim {C = Carries m 0 (kept_walk hs allowed clock n whole ws os) (writes_in (others n fs) m)}
     (λ t.
     let e : m ≡ n = equal m n t in
-    subst (λ k. Carries k 0 (kept_walk hs max clock n whole ws os) (writes_in (others n fs) k)) (sym e)
-    (subst (λ vs. Carries n 0 (kept_walk hs max clock n whole ws os) vs) (sym (writes_gone fs n)) (carries_none max clock n whole hs 0 ws os)))
-    (λ t. subst (λ vs. Carries m 0 (kept_walk hs max clock n whole ws os) vs) (sym (without_other fs n m t)) (carries_past max clock n m whole t hs 0 ws os (writes_in fs m) (all m)))
+    subst (λ k. Carries k 0 (kept_walk hs allowed clock n whole ws os) (writes_in (others n fs) k)) (sym e)
+    (subst (λ vs. Carries n 0 (kept_walk hs allowed clock n whole ws os) vs) (sym (writes_gone fs n)) (carries_none allowed clock n whole hs 0 ws os)))
+    (λ t. subst (λ vs. Carries m 0 (kept_walk hs allowed clock n whole ws os) vs) (sym (without_other fs n m t)) (carries_past allowed clock n m whole t hs 0 ws os (writes_in fs m) (all m)))
     (true_or_false (m == n))
 
 -- ---- caps
@@ -282,19 +282,19 @@ met_room n m len clock Retried h (Some w) rest other r = (tt, r)
 met_room n m len clock (Halved cap) h (Some w) rest other r = (tt, r)
 met_room n m len clock (Reported c) h (Some w) rest other r = r
 
-room_past : (max clock n m len : ℕ) (whole : Way) → (m == n) ≡ false → (hs : List Kept) (ws : List Write) (os : List Outcome) → HasRoom m len hs → HasRoom m len (kept_walk hs max clock n whole ws os)
-room_past max clock n m len whole ne [] ws os r = tt
-room_past max clock n m len whole ne (h ∷ hs) ws os r = ⊎_elim {C = HasRoom m len (kept_walk (h ∷ hs) max clock n whole ws os)}
-    (λ t. subst (λ b. HasRoom m len (if b then met_maybe clock (fate_met max whole h os) (slice_get ws 0) (h ∷ []) ++ kept_walk hs max clock n whole (drop 1 ws) (drop 1 os) else h ∷ kept_walk hs max clock n whole ws os)) (sym t)
-    (met_room n m len clock (fate_met max whole h os) h (slice_get ws 0) _ (elsewhere h.flies n m t ne) (room_past max clock n m len whole ne hs (drop 1 ws) (drop 1 os) r.1)))
-    (λ t. subst (λ b. HasRoom m len (if b then met_maybe clock (fate_met max whole h os) (slice_get ws 0) (h ∷ []) ++ kept_walk hs max clock n whole (drop 1 ws) (drop 1 os) else h ∷ kept_walk hs max clock n whole ws os)) (sym t)
-    (r.0, room_past max clock n m len whole ne hs ws os r.1))
+room_past : (allowed : Kept → ℕ) (clock n m len : ℕ) (whole : Way) → (m == n) ≡ false → (hs : List Kept) (ws : List Write) (os : List Outcome) → HasRoom m len hs → HasRoom m len (kept_walk hs allowed clock n whole ws os)
+room_past allowed clock n m len whole ne [] ws os r = tt
+room_past allowed clock n m len whole ne (h ∷ hs) ws os r = ⊎_elim {C = HasRoom m len (kept_walk (h ∷ hs) allowed clock n whole ws os)}
+    (λ t. subst (λ b. HasRoom m len (if b then met_maybe clock (fate_met allowed whole h os) (slice_get ws 0) (h ∷ []) ++ kept_walk hs allowed clock n whole (drop 1 ws) (drop 1 os) else h ∷ kept_walk hs allowed clock n whole ws os)) (sym t)
+    (met_room n m len clock (fate_met allowed whole h os) h (slice_get ws 0) _ (elsewhere h.flies n m t ne) (room_past allowed clock n m len whole ne hs (drop 1 ws) (drop 1 os) r.1)))
+    (λ t. subst (λ b. HasRoom m len (if b then met_maybe clock (fate_met allowed whole h os) (slice_get ws 0) (h ∷ []) ++ kept_walk hs allowed clock n whole (drop 1 ws) (drop 1 os) else h ∷ kept_walk hs allowed clock n whole ws os)) (sym t)
+    (r.0, room_past allowed clock n m len whole ne hs ws os r.1))
     (true_or_false (flies_here n h.flies))
 
-room_after : (max clock n : ℕ) (whole : Way) (hs : List Kept) (ws : List Write) (os : List Outcome) (fs : List Request) → ((m : ℕ) → HasRoom m (length (writes_in fs m)) hs) → (m : ℕ) → HasRoom m (length (writes_in (others n fs) m)) (kept_walk hs max clock n whole ws os)
-room_after max clock n whole hs ws os fs all m = ⊎_elim {C = HasRoom m (length (writes_in (others n fs) m)) (kept_walk hs max clock n whole ws os)}
-    (λ t. subst (λ vs. HasRoom m (length vs) (kept_walk hs max clock n whole ws os)) (sym (ap (writes_in (others n fs)) (equal m n t) ∙ writes_gone fs n)) (room_none m (kept_walk hs max clock n whole ws os)))
-    (λ t. subst (λ vs. HasRoom m (length vs) (kept_walk hs max clock n whole ws os)) (sym (without_other fs n m t)) (room_past max clock n m (length (writes_in fs m)) whole t hs ws os (all m)))
+room_after : (allowed : Kept → ℕ) (clock n : ℕ) (whole : Way) (hs : List Kept) (ws : List Write) (os : List Outcome) (fs : List Request) → ((m : ℕ) → HasRoom m (length (writes_in fs m)) hs) → (m : ℕ) → HasRoom m (length (writes_in (others n fs) m)) (kept_walk hs allowed clock n whole ws os)
+room_after allowed clock n whole hs ws os fs all m = ⊎_elim {C = HasRoom m (length (writes_in (others n fs) m)) (kept_walk hs allowed clock n whole ws os)}
+    (λ t. subst (λ vs. HasRoom m (length vs) (kept_walk hs allowed clock n whole ws os)) (sym (ap (writes_in (others n fs)) (equal m n t) ∙ writes_gone fs n)) (room_none m (kept_walk hs allowed clock n whole ws os)))
+    (λ t. subst (λ vs. HasRoom m (length vs) (kept_walk hs allowed clock n whole ws os)) (sym (without_other fs n m t)) (room_past allowed clock n m (length (writes_in fs m)) whole t hs ws os (all m)))
     (true_or_false (m == n))
 
 few_without : (fs : List Request) (n : ℕ) → AreFew fs → AreFew (others n fs)
@@ -311,13 +311,13 @@ few_in (x ∷ fs) n f = ⊎_elim {C = length (writes_in (x ∷ fs) n) ≤ 429496
     (λ t. subst (λ b. length (if b then x.writes.items else writes_in fs n) ≤ 4294967295) (sym t) (few_in fs n f.1))
     (true_or_false (x.number == n))
 
-pub readable_after : (max clock n next : ℕ) → 0 < max → clock ≤ 18446744073709551615 → (whole : Way) (os : List Outcome) (hs hs' : List Kept) (fs fs' : List Request) → hs' ≡ kept_walk hs max clock n whole (writes_in fs n) os → fs' ≡ others n fs → IsHalf whole (length (writes_in fs n)) → IsReadable max next hs fs → IsReadable max next hs' fs'
-readable_after max clock n next some ends whole os hs hs' fs fs' e d half r =
-    subst (λ xs. IsReadable max next xs fs') (sym e) (subst (λ ys. IsReadable max next (kept_walk hs max clock n whole (writes_in fs n) os) ys) (sym d) (record {
-      kept = all_kept_walk max clock n next (length (writes_in fs n)) some ends whole half hs 0 (writes_in fs n) os (r.caps n) (r.carries n) r.kept;
-      rises = rises_walk max clock n whole hs (writes_in fs n) os r.rises;
-      carries = carries_after max clock n whole hs (writes_in fs n) os fs r.carries;
-      caps = room_after max clock n whole hs (writes_in fs n) os fs r.caps;
+pub readable_after : (allowed : Kept → ℕ) (max clock n next : ℕ) → ((h : Kept) → allowed h ≤ max) → 0 < max → clock ≤ 18446744073709551615 → (whole : Way) (os : List Outcome) (hs hs' : List Kept) (fs fs' : List Request) → hs' ≡ kept_walk hs allowed clock n whole (writes_in fs n) os → fs' ≡ others n fs → IsHalf whole (length (writes_in fs n)) → IsReadable max next hs fs → IsReadable max next hs' fs'
+readable_after allowed max clock n next within some ends whole os hs hs' fs fs' e d half r =
+    subst (λ xs. IsReadable max next xs fs') (sym e) (subst (λ ys. IsReadable max next (kept_walk hs allowed clock n whole (writes_in fs n) os) ys) (sym d) (record {
+      kept = all_kept_walk allowed max clock n next (length (writes_in fs n)) within some ends whole half hs 0 (writes_in fs n) os (r.caps n) (r.carries n) r.kept;
+      rises = rises_walk allowed clock n whole hs (writes_in fs n) os r.rises;
+      carries = carries_after allowed clock n whole hs (writes_in fs n) os fs r.carries;
+      caps = room_after allowed clock n whole hs (writes_in fs n) os fs r.caps;
       few = few_without fs n r.few;
     }))
 

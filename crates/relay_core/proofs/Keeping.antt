@@ -33,30 +33,30 @@ elsewhere None n m t ne = refl
 elsewhere (Some s) n m t ne = ⊎_elim {C = (s.request == m) ≡ false} (λ v. let k = equal_test m n (sym (equal s.request m v) ∙ equal s.request n t) in absurd (cc)) (λ v. v) (true_or_false (s.request == m))
 
 -- a request that flies elsewhere carries what it carried
-met_past : (max clock n m p : ℕ) (x : Fate) (h : Kept) (w : Option Write) (rest : List Kept) (vs : List Write) → (m == n) ≡ false → flies_here n h.flies ≡ true → Carries m p rest vs
+met_past : (clock n m p : ℕ) (x : Fate) (h : Kept) (w : Option Write) (rest : List Kept) (vs : List Write) → (m == n) ≡ false → flies_here n h.flies ≡ true → Carries m p rest vs
     → Carries m p (met_maybe clock x w (h ∷ []) ++ rest) vs
-met_past max clock n m p x h None rest vs ne t c = c
-met_past max clock n m p Flies h (Some w) rest vs ne t c =
+met_past clock n m p x h None rest vs ne t c = c
+met_past clock n m p Flies h (Some w) rest vs ne t c =
     let other : flies_here m h.flies ≡ false = elsewhere h.flies n m t ne in
     subst (λ b. Given b (IsMet m p h vs) × Carries m (further b p) rest (rest_if b vs)) (sym other) (tt, c)
-met_past max clock n m p Applied h (Some w) rest vs ne t c = c
-met_past max clock n m p Already h (Some w) rest vs ne t c = c
-met_past max clock n m p Retried h (Some w) rest vs ne t c = (tt, c)
-met_past max clock n m p (Halved cap) h (Some w) rest vs ne t c = (tt, c)
-met_past max clock n m p (Reported cause) h (Some w) rest vs ne t c = c
+met_past clock n m p Applied h (Some w) rest vs ne t c = c
+met_past clock n m p Already h (Some w) rest vs ne t c = c
+met_past clock n m p Retried h (Some w) rest vs ne t c = (tt, c)
+met_past clock n m p (Halved cap) h (Some w) rest vs ne t c = (tt, c)
+met_past clock n m p (Reported cause) h (Some w) rest vs ne t c = c
 
-pub carries_past : (max clock n m : ℕ) (whole : Way) → (m == n) ≡ false → (hs : List Kept) (p : ℕ) (ws : List Write) (os : List Outcome) (vs : List Write) → Carries m p hs vs
-    → Carries m p (kept_walk hs max clock n whole ws os) vs
-carries_past max clock n m whole ne [] p ws os vs c = c
-carries_past max clock n m whole ne (h ∷ hs) p ws os vs c = ⊎_elim {C = Carries m p (kept_walk (h ∷ hs) max clock n whole ws os) vs}
+pub carries_past : (allowed : Kept → ℕ) (clock n m : ℕ) (whole : Way) → (m == n) ≡ false → (hs : List Kept) (p : ℕ) (ws : List Write) (os : List Outcome) (vs : List Write) → Carries m p hs vs
+    → Carries m p (kept_walk hs allowed clock n whole ws os) vs
+carries_past allowed clock n m whole ne [] p ws os vs c = c
+carries_past allowed clock n m whole ne (h ∷ hs) p ws os vs c = ⊎_elim {C = Carries m p (kept_walk (h ∷ hs) allowed clock n whole ws os) vs}
     (λ t.
     let other : flies_here m h.flies ≡ false = elsewhere h.flies n m t ne in
     let c1 : Carries m p hs vs = subst (λ b. Carries m (further b p) hs (rest_if b vs)) other c.1 in
-    subst (λ b. Carries m p (if b then met_maybe clock (fate_met max whole h os) (slice_get ws 0) (h ∷ []) ++ kept_walk hs max clock n whole (drop 1 ws) (drop 1 os) else h ∷ kept_walk hs max clock n whole ws os) vs) (sym t)
-    (met_past max clock n m p (fate_met max whole h os) h (slice_get ws 0) _ vs ne t (carries_past max clock n m whole ne hs p (drop 1 ws) (drop 1 os) vs c1)))
+    subst (λ b. Carries m p (if b then met_maybe clock (fate_met allowed whole h os) (slice_get ws 0) (h ∷ []) ++ kept_walk hs allowed clock n whole (drop 1 ws) (drop 1 os) else h ∷ kept_walk hs allowed clock n whole ws os) vs) (sym t)
+    (met_past clock n m p (fate_met allowed whole h os) h (slice_get ws 0) _ vs ne t (carries_past allowed clock n m whole ne hs p (drop 1 ws) (drop 1 os) vs c1)))
     (λ t.
-    subst (λ b. Carries m p (if b then met_maybe clock (fate_met max whole h os) (slice_get ws 0) (h ∷ []) ++ kept_walk hs max clock n whole (drop 1 ws) (drop 1 os) else h ∷ kept_walk hs max clock n whole ws os) vs) (sym t)
-    (c.0, carries_past max clock n m whole ne hs (further (flies_here m h.flies) p) ws os (rest_if (flies_here m h.flies) vs) c.1))
+    subst (λ b. Carries m p (if b then met_maybe clock (fate_met allowed whole h os) (slice_get ws 0) (h ∷ []) ++ kept_walk hs allowed clock n whole (drop 1 ws) (drop 1 os) else h ∷ kept_walk hs allowed clock n whole ws os) vs) (sym t)
+    (c.0, carries_past allowed clock n m whole ne hs (further (flies_here m h.flies) p) ws os (rest_if (flies_here m h.flies) vs) c.1))
     (true_or_false (flies_here n h.flies))
 
 pub or_false : (a b : Bool) → (a || b) ≡ false → (a ≡ false) × (b ≡ false)

@@ -96,13 +96,13 @@ module _ (n : ℕ) where
   after_past clock w x hs (Halved k) f = ap (λ b. if b then halved_at clock k w x ∷ hs else x ∷ with_first w.key (halved_at clock k w) hs) f
   after_past clock w x hs (Reported c) f = ap (λ b. if b then hs else x ∷ without_first w.key hs) f
 
-  module _ (max clock : ℕ) (whole : Way) where
+  module _ (allowed : Kept → ℕ) (clock : ℕ) (whole : Way) where
     abbrev walk : List Kept → List Write → List Outcome → List Kept
-    walk hs ws os = kept_walk hs max clock n whole ws os
+    walk hs ws os = kept_walk hs allowed clock n whole ws os
 
     -- what one left of itself is passed over
     met_over : (w : Write) (h : Kept) (hs : List Kept) (y : Fate) (ws : List Write) (os : List Outcome) → settles y ≡ true
-        → kept_walk (met_maybe clock y (Some w) (h ∷ []) ++ hs) max clock n whole ws os ≡ met_maybe clock y (Some w) (h ∷ []) ++ kept_walk hs max clock n whole ws os
+        → kept_walk (met_maybe clock y (Some w) (h ∷ []) ++ hs) allowed clock n whole ws os ≡ met_maybe clock y (Some w) (h ∷ []) ++ kept_walk hs allowed clock n whole ws os
     met_over w h hs Flies ws os s = absurd (apart_tests s)
     met_over w h hs Applied ws os s = refl
     met_over w h hs Already ws os s = refl
@@ -111,32 +111,32 @@ module _ (n : ℕ) where
     met_over w h hs (Reported c) ws os s = refl
 
     over_here : (h : Kept) (hs : List Kept) (w : Write) (ws : List Write) (os : List Outcome) → flies_here n h.flies ≡ true
-        → kept_walk (h ∷ hs) max clock n whole (w ∷ ws) os ≡ met_maybe clock (fate_met max whole h os) (Some w) (h ∷ []) ++ kept_walk hs max clock n whole ws (drop 1 os)
-    over_here h hs w ws os t = ap (λ b. if b then met_maybe clock (fate_met max whole h os) (Some w) (h ∷ []) ++ kept_walk hs max clock n whole ws (drop 1 os) else h ∷ kept_walk hs max clock n whole (w ∷ ws) os) t
+        → kept_walk (h ∷ hs) allowed clock n whole (w ∷ ws) os ≡ met_maybe clock (fate_met allowed whole h os) (Some w) (h ∷ []) ++ kept_walk hs allowed clock n whole ws (drop 1 os)
+    over_here h hs w ws os t = ap (λ b. if b then met_maybe clock (fate_met allowed whole h os) (Some w) (h ∷ []) ++ kept_walk hs allowed clock n whole ws (drop 1 os) else h ∷ kept_walk hs allowed clock n whole (w ∷ ws) os) t
 
-    over_past : (h : Kept) (hs : List Kept) (ws : List Write) (os : List Outcome) → flies_here n h.flies ≡ false → kept_walk (h ∷ hs) max clock n whole ws os ≡ h ∷ kept_walk hs max clock n whole ws os
-    over_past h hs ws os f = ap (λ b. if b then met_maybe clock (fate_met max whole h os) (slice_get ws 0) (h ∷ []) ++ kept_walk hs max clock n whole (drop 1 ws) (drop 1 os) else h ∷ kept_walk hs max clock n whole ws os) f
+    over_past : (h : Kept) (hs : List Kept) (ws : List Write) (os : List Outcome) → flies_here n h.flies ≡ false → kept_walk (h ∷ hs) allowed clock n whole ws os ≡ h ∷ kept_walk hs allowed clock n whole ws os
+    over_past h hs ws os f = ap (λ b. if b then met_maybe clock (fate_met allowed whole h os) (slice_get ws 0) (h ∷ []) ++ kept_walk hs allowed clock n whole (drop 1 ws) (drop 1 os) else h ∷ kept_walk hs allowed clock n whole ws os) f
 
     pub kept_step : (hs : List Kept) (p : ℕ) (w : Write) (ws : List Write) (os : List Outcome) (h : Kept) → Carries n p hs (w ∷ ws) → first_of w.key hs ≡ Some h → flies_here n h.flies ≡ true
-        → kept_walk hs max clock n whole (w ∷ ws) os ≡ kept_walk (after_one clock w hs (fate_one max whole h (slice_get os 0))) max clock n whole ws (drop 1 os)
+        → kept_walk hs allowed clock n whole (w ∷ ws) os ≡ kept_walk (after_one clock w hs (fate_one allowed whole h (slice_get os 0))) allowed clock n whole ws (drop 1 os)
     kept_step [] p w ws os h c e t = absurd (cc)
-    kept_step (x ∷ hs) p w ws os h c e t = ⊎_elim {C = kept_walk (x ∷ hs) max clock n whole (w ∷ ws) os ≡ kept_walk (after_one clock w (x ∷ hs) (fate_one max whole h (slice_get os 0))) max clock n whole ws (drop 1 os)}
+    kept_step (x ∷ hs) p w ws os h c e t = ⊎_elim {C = kept_walk (x ∷ hs) allowed clock n whole (w ∷ ws) os ≡ kept_walk (after_one clock w (x ∷ hs) (fate_one allowed whole h (slice_get os 0))) allowed clock n whole ws (drop 1 os)}
         (λ y. let of = is_its_document x p w ws (met_here x hs p (w ∷ ws) y c) in
         let is = here_first w x hs h of e in
         over_here x hs w ws os y
-        ∙ sym (met_over w x hs (fate_met max whole x os) ws (drop 1 os) (met_ends max whole x os))
-        ∙ ap (λ zs. kept_walk zs max clock n whole ws (drop 1 os)) (sym (after_here clock w x hs (fate_met max whole x os) of (met_ends max whole x os)))
-        ∙ ap (λ (z : Kept). kept_walk (after_one clock w (x ∷ hs) (fate_one max whole z (slice_get os 0))) max clock n whole ws (drop 1 os)) is)
+        ∙ sym (met_over w x hs (fate_met allowed whole x os) ws (drop 1 os) (met_ends allowed whole x os))
+        ∙ ap (λ zs. kept_walk zs allowed clock n whole ws (drop 1 os)) (sym (after_here clock w x hs (fate_met allowed whole x os) of (met_ends allowed whole x os)))
+        ∙ ap (λ (z : Kept). kept_walk (after_one clock w (x ∷ hs) (fate_one allowed whole z (slice_get os 0))) allowed clock n whole ws (drop 1 os)) is)
         (λ g. let of = other_document w x hs h e t g in
         over_past x hs (w ∷ ws) os g
         ∙ ap (λ zs. x ∷ zs) (kept_step hs p w ws os h (past_rest x hs p (w ∷ ws) g c) (later_first w x hs h of e) t)
-        ∙ sym (over_past x (after_one clock w hs (fate_one max whole h (slice_get os 0))) ws (drop 1 os) g)
-        ∙ ap (λ zs. kept_walk zs max clock n whole ws (drop 1 os)) (sym (after_past clock w x hs (fate_one max whole h (slice_get os 0)) of)))
+        ∙ sym (over_past x (after_one clock w hs (fate_one allowed whole h (slice_get os 0))) ws (drop 1 os) g)
+        ∙ ap (λ zs. kept_walk zs allowed clock n whole ws (drop 1 os)) (sym (after_past clock w x hs (fate_one allowed whole h (slice_get os 0)) of)))
         (true_or_false (flies_here n x.flies))
 
     -- the same of the reports, and of a count
     reports_over : (w : Write) (h : Kept) (hs : List Kept) (y : Fate) (ws : List Write) (os : List Outcome) → settles y ≡ true
-        → reports_walk (met_maybe clock y (Some w) (h ∷ []) ++ hs) max n whole ws os ≡ reports_walk hs max n whole ws os
+        → reports_walk (met_maybe clock y (Some w) (h ∷ []) ++ hs) allowed n whole ws os ≡ reports_walk hs allowed n whole ws os
     reports_over w h hs Flies ws os s = absurd (apart_tests s)
     reports_over w h hs Applied ws os s = refl
     reports_over w h hs Already ws os s = refl
@@ -145,25 +145,25 @@ module _ (n : ℕ) where
     reports_over w h hs (Reported c) ws os s = refl
 
     pub reports_step : (hs : List Kept) (p : ℕ) (w : Write) (ws : List Write) (os : List Outcome) (h : Kept) → Carries n p hs (w ∷ ws) → first_of w.key hs ≡ Some h → flies_here n h.flies ≡ true
-        → reports_walk hs max n whole (w ∷ ws) os ≡ reports_one (fate_one max whole h (slice_get os 0)) h w ++ reports_walk (after_one clock w hs (fate_one max whole h (slice_get os 0))) max n whole ws (drop 1 os)
+        → reports_walk hs allowed n whole (w ∷ ws) os ≡ reports_one (fate_one allowed whole h (slice_get os 0)) h w ++ reports_walk (after_one clock w hs (fate_one allowed whole h (slice_get os 0))) allowed n whole ws (drop 1 os)
     reports_step [] p w ws os h c e t = absurd (cc)
-    reports_step (x ∷ hs) p w ws os h c e t = ⊎_elim {C = reports_walk (x ∷ hs) max n whole (w ∷ ws) os ≡ reports_one (fate_one max whole h (slice_get os 0)) h w ++ reports_walk (after_one clock w (x ∷ hs) (fate_one max whole h (slice_get os 0))) max n whole ws (drop 1 os)}
+    reports_step (x ∷ hs) p w ws os h c e t = ⊎_elim {C = reports_walk (x ∷ hs) allowed n whole (w ∷ ws) os ≡ reports_one (fate_one allowed whole h (slice_get os 0)) h w ++ reports_walk (after_one clock w (x ∷ hs) (fate_one allowed whole h (slice_get os 0))) allowed n whole ws (drop 1 os)}
         (λ y. let of = is_its_document x p w ws (met_here x hs p (w ∷ ws) y c) in
         let is = here_first w x hs h of e in
-        ap (λ b. if b then reports_maybe (fate_met max whole x os) (Some w) (x ∷ []) ++ reports_walk hs max n whole ws (drop 1 os) else reports_walk hs max n whole (w ∷ ws) os) y
-        ∙ ap (λ rs. reports_one (fate_met max whole x os) x w ++ rs) (sym (reports_over w x hs (fate_met max whole x os) ws (drop 1 os) (met_ends max whole x os))
-        ∙ ap (λ zs. reports_walk zs max n whole ws (drop 1 os)) (sym (after_here clock w x hs (fate_met max whole x os) of (met_ends max whole x os))))
-        ∙ ap (λ (z : Kept). reports_one (fate_one max whole z (slice_get os 0)) z w ++ reports_walk (after_one clock w (x ∷ hs) (fate_one max whole z (slice_get os 0))) max n whole ws (drop 1 os)) is)
+        ap (λ b. if b then reports_maybe (fate_met allowed whole x os) (Some w) (x ∷ []) ++ reports_walk hs allowed n whole ws (drop 1 os) else reports_walk hs allowed n whole (w ∷ ws) os) y
+        ∙ ap (λ rs. reports_one (fate_met allowed whole x os) x w ++ rs) (sym (reports_over w x hs (fate_met allowed whole x os) ws (drop 1 os) (met_ends allowed whole x os))
+        ∙ ap (λ zs. reports_walk zs allowed n whole ws (drop 1 os)) (sym (after_here clock w x hs (fate_met allowed whole x os) of (met_ends allowed whole x os))))
+        ∙ ap (λ (z : Kept). reports_one (fate_one allowed whole z (slice_get os 0)) z w ++ reports_walk (after_one clock w (x ∷ hs) (fate_one allowed whole z (slice_get os 0))) allowed n whole ws (drop 1 os)) is)
         (λ g. let of = other_document w x hs h e t g in
-        ap (λ b. if b then reports_maybe (fate_met max whole x os) (Some w) (x ∷ []) ++ reports_walk hs max n whole ws (drop 1 os) else reports_walk hs max n whole (w ∷ ws) os) g
+        ap (λ b. if b then reports_maybe (fate_met allowed whole x os) (Some w) (x ∷ []) ++ reports_walk hs allowed n whole ws (drop 1 os) else reports_walk hs allowed n whole (w ∷ ws) os) g
         ∙ reports_step hs p w ws os h (past_rest x hs p (w ∷ ws) g c) (later_first w x hs h of e) t
-        ∙ ap (λ rs. reports_one (fate_one max whole h (slice_get os 0)) h w ++ rs)
-        (sym (ap (λ b. if b then reports_maybe (fate_met max whole x (drop 1 os)) (slice_get ws 0) (x ∷ []) ++ reports_walk (after_one clock w hs (fate_one max whole h (slice_get os 0))) max n whole (drop 1 ws) (drop 1 (drop 1 os)) else reports_walk (after_one clock w hs (fate_one max whole h (slice_get os 0))) max n whole ws (drop 1 os)) g)
-        ∙ ap (λ zs. reports_walk zs max n whole ws (drop 1 os)) (sym (after_past clock w x hs (fate_one max whole h (slice_get os 0)) of))))
+        ∙ ap (λ rs. reports_one (fate_one allowed whole h (slice_get os 0)) h w ++ rs)
+        (sym (ap (λ b. if b then reports_maybe (fate_met allowed whole x (drop 1 os)) (slice_get ws 0) (x ∷ []) ++ reports_walk (after_one clock w hs (fate_one allowed whole h (slice_get os 0))) allowed n whole (drop 1 ws) (drop 1 (drop 1 os)) else reports_walk (after_one clock w hs (fate_one allowed whole h (slice_get os 0))) allowed n whole ws (drop 1 os)) g)
+        ∙ ap (λ zs. reports_walk zs allowed n whole ws (drop 1 os)) (sym (after_past clock w x hs (fate_one allowed whole h (slice_get os 0)) of))))
         (true_or_false (flies_here n x.flies))
 
     successes_over : (w : Write) (h : Kept) (hs : List Kept) (y : Fate) (ws : List Write) (os : List Outcome) → settles y ≡ true
-        → successes_walk (met_maybe clock y (Some w) (h ∷ []) ++ hs) max n whole ws os ≡ successes_walk hs max n whole ws os
+        → successes_walk (met_maybe clock y (Some w) (h ∷ []) ++ hs) allowed n whole ws os ≡ successes_walk hs allowed n whole ws os
     successes_over w h hs Flies ws os s = absurd (apart_tests s)
     successes_over w h hs Applied ws os s = refl
     successes_over w h hs Already ws os s = refl
@@ -172,27 +172,27 @@ module _ (n : ℕ) where
     successes_over w h hs (Reported c) ws os s = refl
 
     pub successes_step : (hs : List Kept) (p : ℕ) (w : Write) (ws : List Write) (os : List Outcome) (h : Kept) → Carries n p hs (w ∷ ws) → first_of w.key hs ≡ Some h → flies_here n h.flies ≡ true
-        → successes_walk hs max n whole (w ∷ ws) os ≡ success_one (fate_one max whole h (slice_get os 0)) (status_in (slice_get os 0)) h w ++ successes_walk (after_one clock w hs (fate_one max whole h (slice_get os 0))) max n whole ws (drop 1 os)
+        → successes_walk hs allowed n whole (w ∷ ws) os ≡ success_one (fate_one allowed whole h (slice_get os 0)) (status_in (slice_get os 0)) h w ++ successes_walk (after_one clock w hs (fate_one allowed whole h (slice_get os 0))) allowed n whole ws (drop 1 os)
     successes_step [] p w ws os h c e t = absurd (cc)
-    successes_step (x ∷ hs) p w ws os h c e t = ⊎_elim {C = successes_walk (x ∷ hs) max n whole (w ∷ ws) os ≡ success_one (fate_one max whole h (slice_get os 0)) (status_in (slice_get os 0)) h w ++ successes_walk (after_one clock w (x ∷ hs) (fate_one max whole h (slice_get os 0))) max n whole ws (drop 1 os)}
+    successes_step (x ∷ hs) p w ws os h c e t = ⊎_elim {C = successes_walk (x ∷ hs) allowed n whole (w ∷ ws) os ≡ success_one (fate_one allowed whole h (slice_get os 0)) (status_in (slice_get os 0)) h w ++ successes_walk (after_one clock w (x ∷ hs) (fate_one allowed whole h (slice_get os 0))) allowed n whole ws (drop 1 os)}
         (λ y. let of = is_its_document x p w ws (met_here x hs p (w ∷ ws) y c) in
         let is = here_first w x hs h of e in
         let status = status_in (slice_get os 0) in
-        ap (λ b. if b then success_maybe (fate_met max whole x os) status (Some w) (x ∷ []) ++ successes_walk hs max n whole ws (drop 1 os) else successes_walk hs max n whole (w ∷ ws) os) y
-        ∙ ap (λ rs. success_one (fate_met max whole x os) status x w ++ rs) (sym (successes_over w x hs (fate_met max whole x os) ws (drop 1 os) (met_ends max whole x os))
-        ∙ ap (λ zs. successes_walk zs max n whole ws (drop 1 os)) (sym (after_here clock w x hs (fate_met max whole x os) of (met_ends max whole x os))))
-        ∙ ap (λ (z : Kept). success_one (fate_one max whole z (slice_get os 0)) status z w ++ successes_walk (after_one clock w (x ∷ hs) (fate_one max whole z (slice_get os 0))) max n whole ws (drop 1 os)) is)
+        ap (λ b. if b then success_maybe (fate_met allowed whole x os) status (Some w) (x ∷ []) ++ successes_walk hs allowed n whole ws (drop 1 os) else successes_walk hs allowed n whole (w ∷ ws) os) y
+        ∙ ap (λ rs. success_one (fate_met allowed whole x os) status x w ++ rs) (sym (successes_over w x hs (fate_met allowed whole x os) ws (drop 1 os) (met_ends allowed whole x os))
+        ∙ ap (λ zs. successes_walk zs allowed n whole ws (drop 1 os)) (sym (after_here clock w x hs (fate_met allowed whole x os) of (met_ends allowed whole x os))))
+        ∙ ap (λ (z : Kept). success_one (fate_one allowed whole z (slice_get os 0)) status z w ++ successes_walk (after_one clock w (x ∷ hs) (fate_one allowed whole z (slice_get os 0))) allowed n whole ws (drop 1 os)) is)
         (λ g. let of = other_document w x hs h e t g in
         let status = status_in (slice_get os 0) in
-        ap (λ b. if b then success_maybe (fate_met max whole x os) status (Some w) (x ∷ []) ++ successes_walk hs max n whole ws (drop 1 os) else successes_walk hs max n whole (w ∷ ws) os) g
+        ap (λ b. if b then success_maybe (fate_met allowed whole x os) status (Some w) (x ∷ []) ++ successes_walk hs allowed n whole ws (drop 1 os) else successes_walk hs allowed n whole (w ∷ ws) os) g
         ∙ successes_step hs p w ws os h (past_rest x hs p (w ∷ ws) g c) (later_first w x hs h of e) t
-        ∙ ap (λ rs. success_one (fate_one max whole h (slice_get os 0)) status h w ++ rs)
-        (sym (ap (λ b. if b then success_maybe (fate_met max whole x (drop 1 os)) (status_in (slice_get (drop 1 os) 0)) (slice_get ws 0) (x ∷ []) ++ successes_walk (after_one clock w hs (fate_one max whole h (slice_get os 0))) max n whole (drop 1 ws) (drop 1 (drop 1 os)) else successes_walk (after_one clock w hs (fate_one max whole h (slice_get os 0))) max n whole ws (drop 1 os)) g)
-        ∙ ap (λ zs. successes_walk zs max n whole ws (drop 1 os)) (sym (after_past clock w x hs (fate_one max whole h (slice_get os 0)) of))))
+        ∙ ap (λ rs. success_one (fate_one allowed whole h (slice_get os 0)) status h w ++ rs)
+        (sym (ap (λ b. if b then success_maybe (fate_met allowed whole x (drop 1 os)) (status_in (slice_get (drop 1 os) 0)) (slice_get ws 0) (x ∷ []) ++ successes_walk (after_one clock w hs (fate_one allowed whole h (slice_get os 0))) allowed n whole (drop 1 ws) (drop 1 (drop 1 os)) else successes_walk (after_one clock w hs (fate_one allowed whole h (slice_get os 0))) allowed n whole ws (drop 1 os)) g)
+        ∙ ap (λ zs. successes_walk zs allowed n whole ws (drop 1 os)) (sym (after_past clock w x hs (fate_one allowed whole h (slice_get os 0)) of))))
         (true_or_false (flies_here n x.flies))
 
     tally_over : (q : Fate → Bool) (w : Write) (h : Kept) (hs : List Kept) (y : Fate) (ws : List Write) (os : List Outcome) → settles y ≡ true
-        → tally_walk q (met_maybe clock y (Some w) (h ∷ []) ++ hs) max n whole ws os ≡ tally_walk q hs max n whole ws os
+        → tally_walk q (met_maybe clock y (Some w) (h ∷ []) ++ hs) allowed n whole ws os ≡ tally_walk q hs allowed n whole ws os
     tally_over q w h hs Flies ws os s = absurd (apart_tests s)
     tally_over q w h hs Applied ws os s = refl
     tally_over q w h hs Already ws os s = refl
@@ -201,21 +201,21 @@ module _ (n : ℕ) where
     tally_over q w h hs (Reported c) ws os s = refl
 
     pub tally_step : (q : Fate → Bool) (hs : List Kept) (p : ℕ) (w : Write) (ws : List Write) (os : List Outcome) (h : Kept) → Carries n p hs (w ∷ ws) → first_of w.key hs ≡ Some h → flies_here n h.flies ≡ true
-        → tally_walk q hs max n whole (w ∷ ws) os ≡ tally (q (fate_one max whole h (slice_get os 0))) + tally_walk q (after_one clock w hs (fate_one max whole h (slice_get os 0))) max n whole ws (drop 1 os)
+        → tally_walk q hs allowed n whole (w ∷ ws) os ≡ tally (q (fate_one allowed whole h (slice_get os 0))) + tally_walk q (after_one clock w hs (fate_one allowed whole h (slice_get os 0))) allowed n whole ws (drop 1 os)
     tally_step q [] p w ws os h c e t = absurd (cc)
-    tally_step q (x ∷ hs) p w ws os h c e t = ⊎_elim {C = tally_walk q (x ∷ hs) max n whole (w ∷ ws) os ≡ tally (q (fate_one max whole h (slice_get os 0))) + tally_walk q (after_one clock w (x ∷ hs) (fate_one max whole h (slice_get os 0))) max n whole ws (drop 1 os)}
+    tally_step q (x ∷ hs) p w ws os h c e t = ⊎_elim {C = tally_walk q (x ∷ hs) allowed n whole (w ∷ ws) os ≡ tally (q (fate_one allowed whole h (slice_get os 0))) + tally_walk q (after_one clock w (x ∷ hs) (fate_one allowed whole h (slice_get os 0))) allowed n whole ws (drop 1 os)}
         (λ y. let of = is_its_document x p w ws (met_here x hs p (w ∷ ws) y c) in
         let is = here_first w x hs h of e in
-        ap (λ b. if b then tally_maybe q (fate_met max whole x os) (Some w) + tally_walk q hs max n whole ws (drop 1 os) else tally_walk q hs max n whole (w ∷ ws) os) y
-        ∙ ap (λ r. tally (q (fate_met max whole x os)) + r) (sym (tally_over q w x hs (fate_met max whole x os) ws (drop 1 os) (met_ends max whole x os))
-        ∙ ap (λ zs. tally_walk q zs max n whole ws (drop 1 os)) (sym (after_here clock w x hs (fate_met max whole x os) of (met_ends max whole x os))))
-        ∙ ap (λ (z : Kept). tally (q (fate_one max whole z (slice_get os 0))) + tally_walk q (after_one clock w (x ∷ hs) (fate_one max whole z (slice_get os 0))) max n whole ws (drop 1 os)) is)
+        ap (λ b. if b then tally_maybe q (fate_met allowed whole x os) (Some w) + tally_walk q hs allowed n whole ws (drop 1 os) else tally_walk q hs allowed n whole (w ∷ ws) os) y
+        ∙ ap (λ r. tally (q (fate_met allowed whole x os)) + r) (sym (tally_over q w x hs (fate_met allowed whole x os) ws (drop 1 os) (met_ends allowed whole x os))
+        ∙ ap (λ zs. tally_walk q zs allowed n whole ws (drop 1 os)) (sym (after_here clock w x hs (fate_met allowed whole x os) of (met_ends allowed whole x os))))
+        ∙ ap (λ (z : Kept). tally (q (fate_one allowed whole z (slice_get os 0))) + tally_walk q (after_one clock w (x ∷ hs) (fate_one allowed whole z (slice_get os 0))) allowed n whole ws (drop 1 os)) is)
         (λ g. let of = other_document w x hs h e t g in
-        ap (λ b. if b then tally_maybe q (fate_met max whole x os) (Some w) + tally_walk q hs max n whole ws (drop 1 os) else tally_walk q hs max n whole (w ∷ ws) os) g
+        ap (λ b. if b then tally_maybe q (fate_met allowed whole x os) (Some w) + tally_walk q hs allowed n whole ws (drop 1 os) else tally_walk q hs allowed n whole (w ∷ ws) os) g
         ∙ tally_step q hs p w ws os h (past_rest x hs p (w ∷ ws) g c) (later_first w x hs h of e) t
-        ∙ ap (λ r. tally (q (fate_one max whole h (slice_get os 0))) + r)
-        (sym (ap (λ b. if b then tally_maybe q (fate_met max whole x (drop 1 os)) (slice_get ws 0) + tally_walk q (after_one clock w hs (fate_one max whole h (slice_get os 0))) max n whole (drop 1 ws) (drop 1 (drop 1 os)) else tally_walk q (after_one clock w hs (fate_one max whole h (slice_get os 0))) max n whole ws (drop 1 os)) g)
-        ∙ ap (λ zs. tally_walk q zs max n whole ws (drop 1 os)) (sym (after_past clock w x hs (fate_one max whole h (slice_get os 0)) of))))
+        ∙ ap (λ r. tally (q (fate_one allowed whole h (slice_get os 0))) + r)
+        (sym (ap (λ b. if b then tally_maybe q (fate_met allowed whole x (drop 1 os)) (slice_get ws 0) + tally_walk q (after_one clock w hs (fate_one allowed whole h (slice_get os 0))) allowed n whole (drop 1 ws) (drop 1 (drop 1 os)) else tally_walk q (after_one clock w hs (fate_one allowed whole h (slice_get os 0))) allowed n whole ws (drop 1 os)) g)
+        ∙ ap (λ zs. tally_walk q zs allowed n whole ws (drop 1 os)) (sym (after_past clock w x hs (fate_one allowed whole h (slice_get os 0)) of))))
         (true_or_false (flies_here n x.flies))
 
     carries_over : (w : Write) (h : Kept) (hs : List Kept) (y : Fate) (p : ℕ) (ws : List Write) → settles y ≡ true → Carries n p hs ws → Carries n p (met_maybe clock y (Some w) (h ∷ []) ++ hs) ws
@@ -227,42 +227,42 @@ module _ (n : ℕ) where
     carries_over w h hs (Reported r) p ws s c = c
 
     pub carries_step : (hs : List Kept) (p : ℕ) (w : Write) (ws : List Write) (os : List Outcome) (h : Kept) → Carries n p hs (w ∷ ws) → first_of w.key hs ≡ Some h → flies_here n h.flies ≡ true
-        → Carries n (p + 1) (after_one clock w hs (fate_one max whole h (slice_get os 0))) ws
+        → Carries n (p + 1) (after_one clock w hs (fate_one allowed whole h (slice_get os 0))) ws
     carries_step [] p w ws os h c e t = absurd (cc)
-    carries_step (x ∷ hs) p w ws os h c e t = ⊎_elim {C = Carries n (p + 1) (after_one clock w (x ∷ hs) (fate_one max whole h (slice_get os 0))) ws}
+    carries_step (x ∷ hs) p w ws os h c e t = ⊎_elim {C = Carries n (p + 1) (after_one clock w (x ∷ hs) (fate_one allowed whole h (slice_get os 0))) ws}
         (λ y. let of = is_its_document x p w ws (met_here x hs p (w ∷ ws) y c) in
         let is = here_first w x hs h of e in
-        subst (λ (z : Kept). Carries n (p + 1) (after_one clock w (x ∷ hs) (fate_one max whole z (slice_get os 0))) ws) is
-        (subst (λ zs. Carries n (p + 1) zs ws) (sym (after_here clock w x hs (fate_met max whole x os) of (met_ends max whole x os)))
-        (carries_over w x hs (fate_met max whole x os) (p + 1) ws (met_ends max whole x os) (met_rest x hs p (w ∷ ws) y c))))
+        subst (λ (z : Kept). Carries n (p + 1) (after_one clock w (x ∷ hs) (fate_one allowed whole z (slice_get os 0))) ws) is
+        (subst (λ zs. Carries n (p + 1) zs ws) (sym (after_here clock w x hs (fate_met allowed whole x os) of (met_ends allowed whole x os)))
+        (carries_over w x hs (fate_met allowed whole x os) (p + 1) ws (met_ends allowed whole x os) (met_rest x hs p (w ∷ ws) y c))))
         (λ g. let of = other_document w x hs h e t g in
-        subst (λ zs. Carries n (p + 1) zs ws) (sym (after_past clock w x hs (fate_one max whole h (slice_get os 0)) of))
+        subst (λ zs. Carries n (p + 1) zs ws) (sym (after_past clock w x hs (fate_one allowed whole h (slice_get os 0)) of))
         (let k = carries_step hs p w ws os h (past_rest x hs p (w ∷ ws) g c) (later_first w x hs h of e) t in
-        subst (λ b. Given b (IsMet n (p + 1) x ws) × Carries n (further b (p + 1)) (after_one clock w hs (fate_one max whole h (slice_get os 0))) (rest_if b ws)) (sym g) (tt, k)))
+        subst (λ b. Given b (IsMet n (p + 1) x ws) × Carries n (further b (p + 1)) (after_one clock w hs (fate_one allowed whole h (slice_get os 0))) (rest_if b ws)) (sym g) (tt, k)))
         (true_or_false (flies_here n x.flies))
 
     -- if no write is left, nothing flies
     pub none_flies : (hs : List Kept) (p : ℕ) (x : Kept) (rest : List Kept) → Carries n p (x ∷ rest) [] → flies_here n x.flies ≡ false
     none_flies hs p x rest c = ⊎_elim {C = flies_here n x.flies ≡ false} (λ t. let m = met_here x rest p [] t c in let e = m.found in absurd (cc)) (λ f. f) (true_or_false (flies_here n x.flies))
 
-    pub kept_end : (hs : List Kept) (p : ℕ) (os : List Outcome) → Carries n p hs [] → kept_walk hs max clock n whole [] os ≡ hs
+    pub kept_end : (hs : List Kept) (p : ℕ) (os : List Outcome) → Carries n p hs [] → kept_walk hs allowed clock n whole [] os ≡ hs
     kept_end [] p os c = refl
     kept_end (x ∷ hs) p os c = let f = none_flies hs p x hs c in over_past x hs [] os f ∙ ap (λ zs. x ∷ zs) (kept_end hs p os (past_rest x hs p [] f c))
 
-    pub reports_end : (hs : List Kept) (p : ℕ) (os : List Outcome) → Carries n p hs [] → reports_walk hs max n whole [] os ≡ []
+    pub reports_end : (hs : List Kept) (p : ℕ) (os : List Outcome) → Carries n p hs [] → reports_walk hs allowed n whole [] os ≡ []
     reports_end [] p os c = refl
     reports_end (x ∷ hs) p os c = let f = none_flies hs p x hs c in
-        ap (λ b. if b then reports_maybe (fate_met max whole x os) None (x ∷ []) ++ reports_walk hs max n whole [] (drop 1 os) else reports_walk hs max n whole [] os) f ∙ reports_end hs p os (past_rest x hs p [] f c)
+        ap (λ b. if b then reports_maybe (fate_met allowed whole x os) None (x ∷ []) ++ reports_walk hs allowed n whole [] (drop 1 os) else reports_walk hs allowed n whole [] os) f ∙ reports_end hs p os (past_rest x hs p [] f c)
 
-    pub successes_end : (hs : List Kept) (p : ℕ) (os : List Outcome) → Carries n p hs [] → successes_walk hs max n whole [] os ≡ []
+    pub successes_end : (hs : List Kept) (p : ℕ) (os : List Outcome) → Carries n p hs [] → successes_walk hs allowed n whole [] os ≡ []
     successes_end [] p os c = refl
     successes_end (x ∷ hs) p os c = let f = none_flies hs p x hs c in
-        ap (λ b. if b then success_maybe (fate_met max whole x os) (status_in (slice_get os 0)) None (x ∷ []) ++ successes_walk hs max n whole [] (drop 1 os) else successes_walk hs max n whole [] os) f ∙ successes_end hs p os (past_rest x hs p [] f c)
+        ap (λ b. if b then success_maybe (fate_met allowed whole x os) (status_in (slice_get os 0)) None (x ∷ []) ++ successes_walk hs allowed n whole [] (drop 1 os) else successes_walk hs allowed n whole [] os) f ∙ successes_end hs p os (past_rest x hs p [] f c)
 
-    pub tally_end : (q : Fate → Bool) (hs : List Kept) (p : ℕ) (os : List Outcome) → Carries n p hs [] → tally_walk q hs max n whole [] os ≡ 0
+    pub tally_end : (q : Fate → Bool) (hs : List Kept) (p : ℕ) (os : List Outcome) → Carries n p hs [] → tally_walk q hs allowed n whole [] os ≡ 0
     tally_end q [] p os c = refl
     tally_end q (x ∷ hs) p os c = let f = none_flies hs p x hs c in
-        ap (λ b. if b then tally_maybe q (fate_met max whole x os) None + tally_walk q hs max n whole [] (drop 1 os) else tally_walk q hs max n whole [] os) f ∙ tally_end q hs p os (past_rest x hs p [] f c)
+        ap (λ b. if b then tally_maybe q (fate_met allowed whole x os) None + tally_walk q hs allowed n whole [] (drop 1 os) else tally_walk q hs allowed n whole [] os) f ∙ tally_end q hs p os (past_rest x hs p [] f c)
 
 pub with_first_same : (k : DocKey) (f g : Kept → Kept) (hs : List Kept) (h : Kept) → first_of k hs ≡ Some h → f h ≡ g h → with_first k f hs ≡ with_first k g hs
 with_first_same k f g [] h e s = refl
@@ -311,47 +311,47 @@ length_after clock w hs h (Reported c) e = Rattle.relay_held.proofs.Holding.leng
 
 -- ---- one turn of the loop, over plain values
 
-pub record Turned (n max clock : ℕ) (whole : Way) (hs hs' : List Kept) (ws : List Write) (os : List Outcome) (h : Kept) (y : Fate) : Type 0 where
+pub record Turned (n : ℕ) (allowed : Kept → ℕ) (clock : ℕ) (whole : Way) (hs hs' : List Kept) (ws : List Write) (os : List Outcome) (h : Kept) (y : Fate) : Type 0 where
   pub carries : (p : ℕ) × Carries n p hs' (drop 1 ws)
   pub few : length (drop 1 ws) + 1 ≡ length ws
   pub fewer : length hs' + ends y ≡ length hs
-  pub kept : kept_walk hs max clock n whole ws os ≡ kept_walk hs' max clock n whole (drop 1 ws) (drop 1 os)
-  pub tallied : (q : Fate → Bool) → tally_walk q hs max n whole ws os ≡ tally (q y) + tally_walk q hs' max n whole (drop 1 ws) (drop 1 os)
+  pub kept : kept_walk hs allowed clock n whole ws os ≡ kept_walk hs' allowed clock n whole (drop 1 ws) (drop 1 os)
+  pub tallied : (q : Fate → Bool) → tally_walk q hs allowed n whole ws os ≡ tally (q y) + tally_walk q hs' allowed n whole (drop 1 ws) (drop 1 os)
 
-pub turned : (n max clock : ℕ) (whole : Way) (hs hs' : List Kept) (ws : List Write) (os : List Outcome) (w : Write) → slice_get ws 0 ≡ Some w
-    → (c : (p : ℕ) × Carries n p hs ws) → (h : Kept) → first_of w.key hs ≡ Some h → flies_here n h.flies ≡ true → hs' ≡ after_one clock w hs (fate_one max whole h (slice_get os 0))
-    → Turned n max clock whole hs hs' ws os h (fate_one max whole h (slice_get os 0))
-turned n max clock whole hs hs' ws os w at c h e t is =
+pub turned : (n : ℕ) (allowed : Kept → ℕ) (clock : ℕ) (whole : Way) (hs hs' : List Kept) (ws : List Write) (os : List Outcome) (w : Write) → slice_get ws 0 ≡ Some w
+    → (c : (p : ℕ) × Carries n p hs ws) → (h : Kept) → first_of w.key hs ≡ Some h → flies_here n h.flies ≡ true → hs' ≡ after_one clock w hs (fate_one allowed whole h (slice_get os 0))
+    → Turned n allowed clock whole hs hs' ws os h (fate_one allowed whole h (slice_get os 0))
+turned n allowed clock whole hs hs' ws os w at c h e t is =
     let all = cons_of ws w at in
     let cs = subst (λ xs. Carries n c.0 hs xs) all c.1 in
-    let y = fate_one max whole h (slice_get os 0) in
+    let y = fate_one allowed whole h (slice_get os 0) in
     record {
-      carries = (c.0 + 1, subst (λ zs. Carries n (c.0 + 1) zs (drop 1 ws)) (sym is) (carries_step n max clock whole hs c.0 w (drop 1 ws) os h cs e t));
+      carries = (c.0 + 1, subst (λ zs. Carries n (c.0 + 1) zs (drop 1 ws)) (sym is) (carries_step n allowed clock whole hs c.0 w (drop 1 ws) os h cs e t));
       few = sym (ap length all ∙ (let z : length (w ∷ drop 1 ws) ≡ length (drop 1 ws) + 1 = omega arith in z));
       fewer = ap (λ zs. length zs + ends y) is ∙ length_after clock w hs h y e;
-      kept = ap (λ xs. kept_walk hs max clock n whole xs os) all ∙ kept_step n max clock whole hs c.0 w (drop 1 ws) os h cs e t ∙ ap (λ zs. kept_walk zs max clock n whole (drop 1 ws) (drop 1 os)) (sym is);
-      tallied = λ q. ap (λ xs. tally_walk q hs max n whole xs os) all ∙ tally_step n max clock whole q hs c.0 w (drop 1 ws) os h cs e t ∙ ap (λ zs. tally (q y) + tally_walk q zs max n whole (drop 1 ws) (drop 1 os)) (sym is);
+      kept = ap (λ xs. kept_walk hs allowed clock n whole xs os) all ∙ kept_step n allowed clock whole hs c.0 w (drop 1 ws) os h cs e t ∙ ap (λ zs. kept_walk zs allowed clock n whole (drop 1 ws) (drop 1 os)) (sym is);
+      tallied = λ q. ap (λ xs. tally_walk q hs allowed n whole xs os) all ∙ tally_step n allowed clock whole q hs c.0 w (drop 1 ws) os h cs e t ∙ ap (λ zs. tally (q y) + tally_walk q zs allowed n whole (drop 1 ws) (drop 1 os)) (sym is);
     }
 
-pub reported_turn : (n max clock : ℕ) (whole : Way) (hs hs' : List Kept) (ws : List Write) (os : List Outcome) (w : Write) → slice_get ws 0 ≡ Some w
-    → (c : (p : ℕ) × Carries n p hs ws) → (h : Kept) → first_of w.key hs ≡ Some h → flies_here n h.flies ≡ true → hs' ≡ after_one clock w hs (fate_one max whole h (slice_get os 0))
-    → reports_walk hs max n whole ws os ≡ reports_one (fate_one max whole h (slice_get os 0)) h w ++ reports_walk hs' max n whole (drop 1 ws) (drop 1 os)
-reported_turn n max clock whole hs hs' ws os w at c h e t is =
+pub reported_turn : (n : ℕ) (allowed : Kept → ℕ) (clock : ℕ) (whole : Way) (hs hs' : List Kept) (ws : List Write) (os : List Outcome) (w : Write) → slice_get ws 0 ≡ Some w
+    → (c : (p : ℕ) × Carries n p hs ws) → (h : Kept) → first_of w.key hs ≡ Some h → flies_here n h.flies ≡ true → hs' ≡ after_one clock w hs (fate_one allowed whole h (slice_get os 0))
+    → reports_walk hs allowed n whole ws os ≡ reports_one (fate_one allowed whole h (slice_get os 0)) h w ++ reports_walk hs' allowed n whole (drop 1 ws) (drop 1 os)
+reported_turn n allowed clock whole hs hs' ws os w at c h e t is =
     let all = cons_of ws w at in
     let cs = subst (λ xs. Carries n c.0 hs xs) all c.1 in
-    let y = fate_one max whole h (slice_get os 0) in
-    ap (λ xs. reports_walk hs max n whole xs os) all ∙ reports_step n max clock whole hs c.0 w (drop 1 ws) os h cs e t
-    ∙ ap (λ zs. reports_one y h w ++ reports_walk zs max n whole (drop 1 ws) (drop 1 os)) (sym is)
+    let y = fate_one allowed whole h (slice_get os 0) in
+    ap (λ xs. reports_walk hs allowed n whole xs os) all ∙ reports_step n allowed clock whole hs c.0 w (drop 1 ws) os h cs e t
+    ∙ ap (λ zs. reports_one y h w ++ reports_walk zs allowed n whole (drop 1 ws) (drop 1 os)) (sym is)
 
-pub succeeded_turn : (n max clock : ℕ) (whole : Way) (hs hs' : List Kept) (ws : List Write) (os : List Outcome) (w : Write) → slice_get ws 0 ≡ Some w
-    → (c : (p : ℕ) × Carries n p hs ws) → (h : Kept) → first_of w.key hs ≡ Some h → flies_here n h.flies ≡ true → hs' ≡ after_one clock w hs (fate_one max whole h (slice_get os 0))
-    → successes_walk hs max n whole ws os ≡ success_one (fate_one max whole h (slice_get os 0)) (status_in (slice_get os 0)) h w ++ successes_walk hs' max n whole (drop 1 ws) (drop 1 os)
-succeeded_turn n max clock whole hs hs' ws os w at c h e t is =
+pub succeeded_turn : (n : ℕ) (allowed : Kept → ℕ) (clock : ℕ) (whole : Way) (hs hs' : List Kept) (ws : List Write) (os : List Outcome) (w : Write) → slice_get ws 0 ≡ Some w
+    → (c : (p : ℕ) × Carries n p hs ws) → (h : Kept) → first_of w.key hs ≡ Some h → flies_here n h.flies ≡ true → hs' ≡ after_one clock w hs (fate_one allowed whole h (slice_get os 0))
+    → successes_walk hs allowed n whole ws os ≡ success_one (fate_one allowed whole h (slice_get os 0)) (status_in (slice_get os 0)) h w ++ successes_walk hs' allowed n whole (drop 1 ws) (drop 1 os)
+succeeded_turn n allowed clock whole hs hs' ws os w at c h e t is =
     let all = cons_of ws w at in
     let cs = subst (λ xs. Carries n c.0 hs xs) all c.1 in
-    let y = fate_one max whole h (slice_get os 0) in
-    ap (λ xs. successes_walk hs max n whole xs os) all ∙ successes_step n max clock whole hs c.0 w (drop 1 ws) os h cs e t
-    ∙ ap (λ zs. success_one y (status_in (slice_get os 0)) h w ++ successes_walk zs max n whole (drop 1 ws) (drop 1 os)) (sym is)
+    let y = fate_one allowed whole h (slice_get os 0) in
+    ap (λ xs. successes_walk hs allowed n whole xs os) all ∙ successes_step n allowed clock whole hs c.0 w (drop 1 ws) os h cs e t
+    ∙ ap (λ zs. success_one y (status_in (slice_get os 0)) h w ++ successes_walk zs allowed n whole (drop 1 ws) (drop 1 os)) (sym is)
 
 -- each fate counts once, and what ends or is reported is one fewer
 pub counts_one : (y : Fate) → settles y ≡ true → (tally (machine.is_applied_fate y) + tally (machine.is_already_fate y) + tally (Rattle.relay_core.specs.State.is_reported_fate y) + tally (Rattle.relay_core.specs.State.is_retried_fate y) ≡ 1)
@@ -374,5 +374,5 @@ pub nothing_after : {A : Type 0} (xs : List A) → xs ++ [] ≡ xs
 nothing_after [] = refl
 nothing_after (x ∷ xs) = ap (λ ys. x ∷ ys) (nothing_after xs)
 
-pub tally_as : (q : Fate → Bool) (hs : List Kept) (max n : ℕ) (whole : Way) (ws vs : List Write) (os rs : List Outcome) → ws ≡ vs → os ≡ rs → tally_walk q hs max n whole ws os ≡ tally_walk q hs max n whole vs rs
-tally_as q hs max n whole ws vs os rs a b = λ i. tally_walk q hs max n whole (a i) (b i)
+pub tally_as : (q : Fate → Bool) (hs : List Kept) (allowed : Kept → ℕ) (n : ℕ) (whole : Way) (ws vs : List Write) (os rs : List Outcome) → ws ≡ vs → os ≡ rs → tally_walk q hs allowed n whole ws os ≡ tally_walk q hs allowed n whole vs rs
+tally_as q hs allowed n whole ws vs os rs a b = λ i. tally_walk q hs allowed n whole (a i) (b i)

@@ -1,25 +1,24 @@
 -- A status of a whole request that is not retried: each of its operations is reported, the first with the reason.
-use Rattle.std.proofs.Common.{◌≡◌, ℕ, zero, suc, ◌+◌, ◌-◌, ◌≤◌, ◌<◌, List, [], ◌∷◌, ◌++◌, Option, Some, None, Bool, true, false, refl, sym, ap, ◌∙◌, subst, ⊎_elim, arith}
+use Rattle.std.proofs.Common.{◌≡◌, ℕ, suc, ◌+◌, ◌-◌, ◌≤◌, List, [], ◌∷◌, ◌++◌, Option, Some, None, Bool, true, false, refl, sym, ap, ◌∙◌, subst, ⊎_elim, arith}
 use Rattle.std.proofs.lemmas.List.{length-map}
-use Rattle.std.specs.Prelude.{length, ◌==◌, ◌/◌, if◌then◌else◌, option_map, map, filter}
+use Rattle.std.specs.Prelude.{length, ◌==◌, ◌/◌, if◌then◌else◌, option_map, filter}
 use Rattle.relay_action.specs.Actions.{kind_of}
 use Rattle.relay_action.specs.declared.action.ActionKind.{ActionKind}
 use Rattle.relay_action.specs.declared.write.Write.{Write}
 use Rattle.relay_results.specs.declared.cause.Cause.{Cause}
 use Rattle.relay_results.specs.declared.cause.Cause.TheVariants as cause
 use Rattle.relay_results.specs.declared.cause.LastTry.TheVariants as last
-use Rattle.relay_results.specs.Words.{count, one_if}
-use Rattle.relay_results.specs.Outside.{Answer, Whole}
+use Rattle.relay_results.specs.Words.{one_if}
+use Rattle.relay_results.specs.Outside.{Whole}
 use Rattle.relay_results.specs.Verdicts.{is_halved, is_retried_whole}
 use Rattle.relay_results.specs.Fates.{Fate, Flies, Halved, Reported, Tries, tried_again, reason_at, fate}
 use Rattle.relay_results.proofs.Lists.{true_or_false, equal_test}
-use Rattle.relay_delivery.specs.Machine.{Config, Place, Held, Report, fate_of, report_on, reported_one, reports_from, how_many, is_applied_fate, is_already_fate}
+use Rattle.relay_delivery.specs.Machine.{Place, Held, Report, fate_of, report_on, reported_one, reports_from, how_many, is_applied_fate, is_already_fate}
 use Rattle.relay_delivery.specs.Lane.{Entry, held_of, kept_entry, kept_entries}
 use Rattle.relay_delivery.specs.Lane as delivery
 use Rattle.relay_flight.specs.Flying as flight
 use Rattle.relay_held.specs.declared.kept.Kept.{Kept}
 use Rattle.relay_held.specs.declared.kept.Spot.{Spot}
-use Rattle.relay_core.specs.declared.success.Success.{Success}
 use Rattle.relay_core.specs.Successes.{status_of, success_of, successes_from}
 use Rattle.relay_core.proofs.Keeping.{one_less}
 use Rattle.relay_core.specs.Walk.{report_of, flies_here, explained}
@@ -29,7 +28,7 @@ use Rattle.relay_core.specs.declared.settled.Settled.{Settled}
 use Rattle.relay_core.specs.State.{writes_of, after_answer_to, explained_at, is_reported_fate, is_retried_fate, AreCounts}
 use Rattle.relay_core.specs.View.{state_of, IsSound}
 
-module _ (g : Config) (number : ℕ) (ws : List Write) (status : ℕ) (given : Option (List ℕ)) (half : is_halved (length ws) status ≡ false) (again : is_retried_whole status ≡ false) where
+module _ (allowed : ℕ → ℕ) (number : ℕ) (ws : List Write) (status : ℕ) (given : Option (List ℕ)) (half : is_halved (length ws) status ≡ false) (again : is_retried_whole status ≡ false) where
   -- the fate of each operation of the request, whatever the reason
   met : (reason : Option (List ℕ)) (t : Tries) (p : ℕ) (kind : ActionKind) → fate t ws p kind (Whole status reason) ≡ Reported (cause.Request status (reason_at p reason))
   met reason t p kind =
@@ -38,22 +37,22 @@ module _ (g : Config) (number : ℕ) (ws : List Write) (status : ℕ) (given : O
 
   -- what does not look at causes is the same with a reason and without
   same_by : {A : Type 0} (F : Fate → A) (z : A) → ((c : Cause) → F (Reported c) ≡ z) → (h : Held) (fl : Option Place)
-      → F (fate_of g number ws (Whole status given) h fl) ≡ F (fate_of g number ws (Whole status None) h fl)
+      → F (fate_of allowed number ws (Whole status given) h fl) ≡ F (fate_of allowed number ws (Whole status None) h fl)
   same_by F z is h None = refl
   same_by F z is h (Some f) = by (f.request == number)
     where
       tries : Tries
-      tries = record { version = h.version; sends = h.sends; attempts = h.attempts; max = g.max }
+      tries = record { version = h.version; sends = h.sends; attempts = h.attempts; max = allowed h.version }
 
       by : (b : Bool) → F (if b then fate tries ws f.place (kind_of h.op.action) (Whole status given) else Flies) ≡ F (if b then fate tries ws f.place (kind_of h.op.action) (Whole status None) else Flies)
       by true = ap F (met given tries f.place (kind_of h.op.action)) ∙ is _ ∙ sym (ap F (met None tries f.place (kind_of h.op.action)) ∙ is _)
       by false = refl
 
-  pub kept_same : (clock : ℕ) (es : List Entry) → kept_entries g clock number ws (Whole status given) es ≡ kept_entries g clock number ws (Whole status None) es
+  pub kept_same : (clock : ℕ) (es : List Entry) → kept_entries allowed clock number ws (Whole status given) es ≡ kept_entries allowed clock number ws (Whole status None) es
   kept_same clock [] = refl
   kept_same clock (e ∷ es) = λ i. same_by (λ x. kept_entry clock x e) [] (λ c. refl) e.held e.held.flies i ++ kept_same clock es i
 
-  pub many_same : (test : Fate → Bool) (b : Bool) → ((c : Cause) → test (Reported c) ≡ b) → (hs : List Held) → how_many test g number ws (Whole status given) hs ≡ how_many test g number ws (Whole status None) hs
+  pub many_same : (test : Fate → Bool) (b : Bool) → ((c : Cause) → test (Reported c) ≡ b) → (hs : List Held) → how_many test allowed number ws (Whole status given) hs ≡ how_many test allowed number ws (Whole status None) hs
   many_same test b is [] = refl
   many_same test b is (h ∷ hs) = λ i. one_if (same_by test b is h h.flies i) + many_same test b is hs i
 
@@ -61,42 +60,42 @@ module _ (g : Config) (number : ℕ) (ws : List Write) (status : ℕ) (given : O
   status_same None = refl
   status_same (Some f) = refl
 
-  pub noted_same : (hs : List Held) → successes_from g number ws (Whole status given) hs ≡ successes_from g number ws (Whole status None) hs
+  pub noted_same : (hs : List Held) → successes_from allowed number ws (Whole status given) hs ≡ successes_from allowed number ws (Whole status None) hs
   noted_same [] = refl
   noted_same (h ∷ hs) = λ i.
-      (ap (λ s. success_of (fate_of g number ws (Whole status given) h h.flies) s h) (status_same h.flies)
+      (ap (λ s. success_of (fate_of allowed number ws (Whole status given) h h.flies) s h) (status_same h.flies)
       ∙ same_by (λ x. success_of x (status_of ws (Whole status None) h.flies) h) [] (λ c. refl) h h.flies) i ++ noted_same hs i
 
   -- ---- the reports
 
   -- one that is not in flight in the request ends nothing
-  reported_there : (reason : Option (List ℕ)) (h : Held) (fl : Option Place) → (fate_of g number ws (Whole status reason) h fl ≡ Flies) → reported_one (fate_of g number ws (Whole status reason) h fl) h ≡ []
+  reported_there : (reason : Option (List ℕ)) (h : Held) (fl : Option Place) → (fate_of allowed number ws (Whole status reason) h fl ≡ Flies) → reported_one (fate_of allowed number ws (Whole status reason) h fl) h ≡ []
   reported_there reason h fl e = ap (λ x. reported_one x h) e
 
-  reported_here : (reason : Option (List ℕ)) (h : Held) (p : ℕ) → fate_of g number ws (Whole status reason) h (Some (record { request = number; place = p })) ≡ Reported (cause.Request status (reason_at p reason))
+  reported_here : (reason : Option (List ℕ)) (h : Held) (p : ℕ) → fate_of allowed number ws (Whole status reason) h (Some (record { request = number; place = p })) ≡ Reported (cause.Request status (reason_at p reason))
   reported_here reason h p =
-      ap (λ b. if b then fate (record { version = h.version; sends = h.sends; attempts = h.attempts; max = g.max }) ws p (kind_of h.op.action) (Whole status reason) else Flies) (equal_test number number refl)
-      ∙ met reason (record { version = h.version; sends = h.sends; attempts = h.attempts; max = g.max }) p (kind_of h.op.action)
+      ap (λ b. if b then fate (record { version = h.version; sends = h.sends; attempts = h.attempts; max = allowed h.version }) ws p (kind_of h.op.action) (Whole status reason) else Flies) (equal_test number number refl)
+      ∙ met reason (record { version = h.version; sends = h.sends; attempts = h.attempts; max = allowed h.version }) p (kind_of h.op.action)
 
 -- held operations in memory: those in flight in the request are at its places, in order
-module _ (g : Config) (max next n : ℕ) (ws : List Write) (status : ℕ) (given : Option (List ℕ)) (half : is_halved (length ws) status ≡ false) (again : is_retried_whole status ≡ false) (from : 1 ≤ n) (f : ℕ → List Write) where
-  away : (reason : Option (List ℕ)) (h : Kept) (w : Option Write) (p : Option Spot) → IsHome max next h w p → flies_here n p ≡ false → fate_of g (n - 1) ws (Whole status reason) (held_seen f h) (option_map place_at p) ≡ Flies
+module _ (allowed : ℕ → ℕ) (max next n : ℕ) (ws : List Write) (status : ℕ) (given : Option (List ℕ)) (half : is_halved (length ws) status ≡ false) (again : is_retried_whole status ≡ false) (from : 1 ≤ n) (f : ℕ → List Write) where
+  away : (reason : Option (List ℕ)) (h : Kept) (w : Option Write) (p : Option Spot) → IsHome max next h w p → flies_here n p ≡ false → fate_of allowed (n - 1) ws (Whole status reason) (held_seen f h) (option_map place_at p) ≡ Flies
   away reason h w None k t = refl
   away reason h (Some w) (Some s) k t = absurd k
   away reason h None (Some s) k t =
-      ap (λ b. if b then fate (record { version = h.version; sends = h.sends; attempts = h.attempts; max = g.max }) ws s.place (kind_of (held_seen f h).op.action) (Whole status reason) else Flies) (one_less s.request n k.0 from ∙ t)
+      ap (λ b. if b then fate (record { version = h.version; sends = h.sends; attempts = h.attempts; max = allowed h.version }) ws s.place (kind_of (held_seen f h).op.action) (Whole status reason) else Flies) (one_less s.request n k.0 from ∙ t)
 
   abbrev from_held : Option (List ℕ) → List Kept → List Report
-  from_held reason hs = reports_from g (n - 1) ws (Whole status reason) (held_of (entries hs f))
+  from_held reason hs = reports_from allowed (n - 1) ws (Whole status reason) (held_of (entries hs f))
 
   here_is : (reason : Option (List ℕ)) (h : Kept) (p : ℕ) → h.flies ≡ Some (record { request = n; place = p }) → (rest : List Report)
-      → reported_one (fate_of g (n - 1) ws (Whole status reason) (held_seen f h) (option_map place_at h.flies)) (held_seen f h) ++ rest ≡ report_on (held_seen f h).op (cause.Request status (reason_at p reason)) ∷ rest
+      → reported_one (fate_of allowed (n - 1) ws (Whole status reason) (held_seen f h) (option_map place_at h.flies)) (held_seen f h) ++ rest ≡ report_on (held_seen f h).op (cause.Request status (reason_at p reason)) ∷ rest
   here_is reason h p s rest =
-      ap (λ x. reported_one (fate_of g (n - 1) ws (Whole status reason) (held_seen f h) (option_map place_at x)) (held_seen f h) ++ rest) s
-      ∙ ap (λ x. reported_one x (held_seen f h) ++ rest) (reported_here g (n - 1) ws status given half again reason (held_seen f h) p)
+      ap (λ x. reported_one (fate_of allowed (n - 1) ws (Whole status reason) (held_seen f h) (option_map place_at x)) (held_seen f h) ++ rest) s
+      ∙ ap (λ x. reported_one x (held_seen f h) ++ rest) (reported_here allowed (n - 1) ws status given half again reason (held_seen f h) p)
 
   there_is : (reason : Option (List ℕ)) (h : Kept) → IsKept max next h → flies_here n h.flies ≡ false → (rest : List Report)
-      → reported_one (fate_of g (n - 1) ws (Whole status reason) (held_seen f h) (option_map place_at h.flies)) (held_seen f h) ++ rest ≡ rest
+      → reported_one (fate_of allowed (n - 1) ws (Whole status reason) (held_seen f h) (option_map place_at h.flies)) (held_seen f h) ++ rest ≡ rest
   there_is reason h k t rest = ap (λ x. reported_one x (held_seen f h) ++ rest) (away reason h h.write h.flies k.home t)
 
   -- from the second place on there is no reason
@@ -141,10 +140,10 @@ module _ (a : Inside) (v : IsSound a) (n status : ℕ) (given : Option (List ℕ
       let s = state_of a in
       let hs = held_of s.core.held in
       record {
-        applied = k.applied ∙ sym (many_same s.core.config (n - 1) (writes_of n s) status given half again is_applied_fate false (λ c. refl) hs);
-        already = k.already ∙ sym (many_same s.core.config (n - 1) (writes_of n s) status given half again is_already_fate false (λ c. refl) hs);
-        reported = k.reported ∙ sym (many_same s.core.config (n - 1) (writes_of n s) status given half again is_reported_fate true (λ c. refl) hs);
-        retried = k.retried ∙ sym (many_same s.core.config (n - 1) (writes_of n s) status given half again is_retried_fate false (λ c. refl) hs);
+        applied = k.applied ∙ sym (many_same (delivery.tries_in s.core) (n - 1) (writes_of n s) status given half again is_applied_fate false (λ c. refl) hs);
+        already = k.already ∙ sym (many_same (delivery.tries_in s.core) (n - 1) (writes_of n s) status given half again is_already_fate false (λ c. refl) hs);
+        reported = k.reported ∙ sym (many_same (delivery.tries_in s.core) (n - 1) (writes_of n s) status given half again is_reported_fate true (λ c. refl) hs);
+        retried = k.retried ∙ sym (many_same (delivery.tries_in s.core) (n - 1) (writes_of n s) status given half again is_retried_fate false (λ c. refl) hs);
       }
 
   rejected_core : (place : ℕ) → place ≡ length (state_of a).core.reports
@@ -155,16 +154,16 @@ module _ (a : Inside) (v : IsSound a) (n status : ℕ) (given : Option (List ℕ
       let ws = writes_of n s in
       let f = writes_in a.flight.requests in
       let hs = held_of s.core.held in
-      let none = reports_from s.core.config (n - 1) ws (Whole status None) hs in
+      let none = reports_from (delivery.tries_in s.core) (n - 1) ws (Whole status None) hs in
       let reports = ap (λ k. explained k given (s.core.reports ++ none)) is
       ∙ explained_after s.core.reports none given
-      ∙ ap (λ xs. s.core.reports ++ xs) (sym (first_explained s.core.config a.config.attempts a.flight.next n ws status given half again from f a.held.list (f n) v.readable.kept (v.readable.carries n))) in
+      ∙ ap (λ xs. s.core.reports ++ xs) (sym (first_explained (delivery.tries_in s.core) a.config.attempts a.flight.next n ws status given half again from f a.held.list (f n) v.readable.kept (v.readable.carries n))) in
       λ i. record s.core {
-        held = sym (kept_same s.core.config (n - 1) ws status given half again s.core.clock s.core.held) i;
+        held = sym (kept_same (delivery.tries_in s.core) (n - 1) ws status given half again s.core.clock s.core.held) i;
         flying = filter (delivery.is_other (n - 1)) s.core.flying;
         reports = reports i;
-        applied = s.core.applied + sym (many_same s.core.config (n - 1) ws status given half again is_applied_fate false (λ c. refl) hs) i;
-        already = s.core.already + sym (many_same s.core.config (n - 1) ws status given half again is_already_fate false (λ c. refl) hs) i;
+        applied = s.core.applied + sym (many_same (delivery.tries_in s.core) (n - 1) ws status given half again is_applied_fate false (λ c. refl) hs) i;
+        already = s.core.already + sym (many_same (delivery.tries_in s.core) (n - 1) ws status given half again is_already_fate false (λ c. refl) hs) i;
       }
 
   pub rejected : (place : ℕ) → place ≡ length a.reports.items → explained_at place given (after_answer_to (state_of a) n (Whole status None)) ≡ after_answer_to (state_of a) n (Whole status given)
@@ -174,5 +173,5 @@ module _ (a : Inside) (v : IsSound a) (n status : ℕ) (given : Option (List ℕ
       λ i. record s {
         core = rejected_core place (omega (arith, is, l)) i;
         flights = flight.without_batch n s.flights;
-        successes = s.successes ++ sym (noted_same s.core.config (n - 1) (writes_of n s) status given half again (held_of s.core.held)) i;
+        successes = s.successes ++ sym (noted_same (delivery.tries_in s.core) (n - 1) (writes_of n s) status given half again (held_of s.core.held)) i;
       }

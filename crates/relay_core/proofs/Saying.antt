@@ -9,7 +9,7 @@ use Rattle.relay_results.specs.declared.cause.Loss.{Loss}
 use Rattle.relay_results.specs.Matching.{matches}
 use Rattle.relay_results.specs.Outside.{Whole, Items, Lost}
 use Rattle.relay_results.specs.Verdicts.{is_retried_whole, is_too_large, is_halved}
-use Rattle.relay_results.specs.Fates.{Reported, Halved, Tries, tried_again, reason_at, fate_of_entry}
+use Rattle.relay_results.specs.Fates.{Reported, Halved, Tries, tried_again, no_entry, reason_at, fate_of_entry}
 use Rattle.relay_results.specs.declared.outcome.Outcome.{Outcome}
 use Rattle.relay_core.specs.Walk.{fate_or, status_in}
 use Rattle.relay_core.specs.Memory.{SaysAs, TellsAs, IsHalf}
@@ -66,6 +66,15 @@ half_by false false items status e = tt
 
 pub whole_halves : (items status : ℕ) (whole : Way) → whole ≡ way_by items status → IsHalf whole items
 whole_halves items status whole e = subst (λ w. IsHalf w items) (sym e) (half_by (is_halved items status) (is_retried_whole status) items status refl)
+
+-- ---- a request that is lost, and a reply with entries
+
+pub lost_says : (ws : List Write) (why : Loss) (os : List Outcome) → os ≡ [] → SaysAs (Lost why) ws (way.ByEntry (last.Lost why)) os
+lost_says ws why os n t p kind = ap (λ xs. fate_of_entry t kind (slice_get xs p) (last.Lost why)) (sym n)
+
+pub items_say : (ws : List Write) (os given : List Outcome) (b : Bool) → matches os ws ≡ b → given ≡ (if b then os else []) → SaysAs (Items os) ws (way.ByEntry no_entry) given
+items_say ws os given true m e t p kind = ap (λ b. if b then fate_of_entry t kind (slice_get os p) no_entry else tried_again t no_entry) m ∙ ap (λ xs. fate_of_entry t kind (slice_get xs p) no_entry) (sym e)
+items_say ws os given false m e t p kind = ap (λ b. if b then fate_of_entry t kind (slice_get os p) no_entry else tried_again t no_entry) m ∙ ap (λ xs. fate_of_entry t kind (slice_get xs p) no_entry) (sym e)
 
 -- ---- the status of each entry
 

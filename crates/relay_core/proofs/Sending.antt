@@ -6,7 +6,7 @@ use Rattle.relay_flight.proofs.Numbers.{Lacks}
 use Rattle.relay_results.specs.Words.{IsSubsequence}
 use Rattle.relay_results.proofs.Lists.{true_or_false, equal, equal_test}
 use Rattle.relay_delivery.specs.Machine.{Held, place_of, launched_at}
-use Rattle.relay_delivery.specs.Lane.{held_of, launched_entry}
+use Rattle.relay_delivery.specs.Lane.{held_of, since_sent, launched_entry}
 use Rattle.relay_held.specs.declared.kept.Kept.{Kept}
 use Rattle.relay_flight.specs.declared.request.Request.{Request}
 use Rattle.relay_held.specs.declared.kept.Spot.{Spot}
@@ -67,35 +67,38 @@ found_same max n f f' h (Some w) s same k = refl
 found_same max n f f' h None None same k = refl
 found_same max n f f' h None (Some s) same k = ap (λ ws. slice_get ws s.place) (same s.request k.1)
 
-stays_seen : (max n : ℕ) (f f' : ℕ → List Write) (h : Kept) (chosen : List Held) → ((m : ℕ) → m < n → f' m ≡ f m) → IsKept max n h → place_of h.version chosen ≡ None
-    → entry_of f' h ≡ launched_entry (n - 1) chosen (entry_of f h)
-stays_seen max n f f' h chosen same k none =
+stays_seen : (clock max n : ℕ) (f f' : ℕ → List Write) (h : Kept) (chosen : List Held) → ((m : ℕ) → m < n → f' m ≡ f m) → IsKept max n h → place_of h.version chosen ≡ None
+    → entry_of f' h ≡ launched_entry clock (n - 1) chosen (entry_of f h)
+stays_seen clock max n f f' h chosen same k none =
     (λ i. record {
       held = record { op = record { epoch = h.name.epoch; producer = h.name.producer; number = h.name.number; key = h.key; action = action_or (found_same max n f f' h h.write h.flies same k.home i) }; version = h.version; sends = h.sends; attempts = h.attempts; cap = h.cap; flies = option_map place_at h.flies };
       bytes = h.bytes;
       taken_at = h.taken_at;
+      since = h.since;
       due = h.due;
     })
-    ∙ (λ i. record { held = launched_at (n - 1) (held_seen f h) (sym none i); bytes = h.bytes; taken_at = h.taken_at; due = h.due })
+    ∙ (λ i. record { held = launched_at (n - 1) (held_seen f h) (sym none i); bytes = h.bytes; taken_at = h.taken_at; since = since_sent clock (entry_of f h) (sym none i); due = h.due })
 
-goes_seen : (max n : ℕ) (f f' : ℕ → List Write) (h : Kept) (chosen : List Held) (p : ℕ) → max ≤ 32 → IsKept max n h → (o : Home max h) → slice_get (f' n) p ≡ Some o.write → place_of h.version chosen ≡ Some p
-    → entry_of f' (launch_one n p h) ≡ launched_entry (n - 1) chosen (entry_of f h)
-goes_seen max n f f' h chosen p le k o got at =
+goes_seen : (clock max n : ℕ) (f f' : ℕ → List Write) (h : Kept) (chosen : List Held) (p : ℕ) → max ≤ 2097152 → IsKept max n h → (o : Home max h) → slice_get (f' n) p ≡ Some o.write → place_of h.version chosen ≡ Some p
+    → entry_of f' (launch_one clock n p h) ≡ launched_entry clock (n - 1) chosen (entry_of f h)
+goes_seen clock max n f f' h chosen p le k o got at =
     let a = more_is h.attempts (omega (arith, o.tries, le)) in
     let s = more_is h.sends (omega (arith, o.tries, le, k.sends)) in
     (λ i. record {
       held = record { op = record { epoch = h.name.epoch; producer = h.name.producer; number = h.name.number; key = h.key; action = action_or (got i) }; version = h.version; sends = s i; attempts = a i; cap = h.cap; flies = Some (record { request = n - 1; place = p }) };
       bytes = h.bytes;
       taken_at = h.taken_at;
+      since = (if h.sends == 0 then clock else h.since);
       due = h.due;
     })
     ∙ (λ i. record {
       held = record { op = record { epoch = h.name.epoch; producer = h.name.producer; number = h.name.number; key = h.key; action = action_or (write_found (sym o.found i) h.flies f) }; version = h.version; sends = h.sends + 1; attempts = h.attempts + 1; cap = h.cap; flies = Some (record { request = n - 1; place = p }) };
       bytes = h.bytes;
       taken_at = h.taken_at;
+      since = (if h.sends == 0 then clock else h.since);
       due = h.due;
     })
-    ∙ (λ i. record { held = launched_at (n - 1) (held_seen f h) (sym at i); bytes = h.bytes; taken_at = h.taken_at; due = h.due })
+    ∙ (λ i. record { held = launched_at (n - 1) (held_seen f h) (sym at i); bytes = h.bytes; taken_at = h.taken_at; since = since_sent clock (entry_of f h) (sym at i); due = h.due })
 
 -- ---- the whole list
 
@@ -116,15 +119,15 @@ under_same : (v v' : ℕ) (qs : List Held) → v ≤ v' → Under v qs → Under
 under_same v v' [] le u = tt
 under_same v v' (q ∷ qs) le u = (omega (arith, u.0, le), under_same v v' qs le u.1)
 
-module _ (max n : ℕ) (le : max ≤ 32) (f f' : ℕ → List Write) (same : (m : ℕ) → m < n → f' m ≡ f m) where
+module _ (clock max n : ℕ) (le : max ≤ 2097152) (f f' : ℕ → List Write) (same : (m : ℕ) → m < n → f' m ≡ f m) where
   abbrev pub Seen : ℕ → List Kept → List Kept → List Held → List Write → Type 0
   Seen b hs ps qs fw =
       length fw ≡ length qs → f' n ≡ fw ++ loads ps → Under b qs → AllFrom b hs → Rises hs → AllKept max n hs → IsSubsequence ps hs → AllWait ps →
-      entries (launched_kept hs n (length qs) (map item_of_kept ps)) f' ≡ map (launched_entry (n - 1) (qs ++ held_of (entries ps f))) (entries hs f)
+      entries (launched_kept clock hs n (length qs) (map item_of_kept ps)) f' ≡ map (launched_entry clock (n - 1) (qs ++ held_of (entries ps f))) (entries hs f)
 
   goes_on : (b : ℕ) (h : Kept) (hs ps : List Kept) (qs : List Held) (fw : List Write) → ((b' : ℕ) (qs' : List Held) (fw' : List Write) → Seen b' hs ps qs' fw')
       → length fw ≡ length qs → f' n ≡ fw ++ loads (h ∷ ps) → Under b qs → AllFrom b (h ∷ hs) → Rises (h ∷ hs) → AllKept max n (h ∷ hs) → IsSubsequence ps hs → h.flies ≡ None → AllWait ps
-      → entries (launched_kept (h ∷ hs) n (length qs) (map item_of_kept (h ∷ ps))) f' ≡ map (launched_entry (n - 1) (qs ++ held_of (entries (h ∷ ps) f))) (entries (h ∷ hs) f)
+      → entries (launched_kept clock (h ∷ hs) n (length qs) (map item_of_kept (h ∷ ps))) f' ≡ map (launched_entry clock (n - 1) (qs ++ held_of (entries (h ∷ ps) f))) (entries (h ∷ hs) f)
   goes_on b h hs ps qs fw ih len load u from r a s none w =
       let o = home_of max n h h.write h.flies refl a.0.home none in
       let loaded : f' n ≡ fw ++ o.write ∷ loads ps = load ∙ ap (λ x. fw ++ (option_to_list x ++ loads ps)) o.found in
@@ -137,25 +140,25 @@ module _ (max n : ℕ) (le : max ≤ 32) (f f' : ℕ → List Write) (same : (m 
       (loaded ∙ sym (append_assoc fw (o.write ∷ []) (loads ps)))
       (under_more h.version (h.version + 1) qs q (omega arith) (omega arith) uh)
       (from_above h.version hs r.0) r.1 a.1 s w in
-      ap (λ t. entries (if t then launch_one n (length qs) h ∷ launched_kept hs n (length qs + 1) (map item_of_kept ps) else h ∷ launched_kept hs n (length qs) (item_of_kept h ∷ map item_of_kept ps)) f') (is_its h (map item_of_kept ps) none)
-      ∙ ap (λ k. entry_of f' (launch_one n (length qs) h) ∷ entries (launched_kept hs n k (map item_of_kept ps)) f') (sym (length-append qs (q ∷ [])))
-      ∙ ap (λ es. entry_of f' (launch_one n (length qs) h) ∷ es) (rest ∙ ap (λ cs. map (launched_entry (n - 1) cs) (entries hs f)) (append_assoc qs (q ∷ []) (held_of (entries ps f))))
-      ∙ ap (λ e. e ∷ map (launched_entry (n - 1) (qs ++ q ∷ held_of (entries ps f))) (entries hs f)) (goes_seen max n f f' h (qs ++ q ∷ held_of (entries ps f)) (length qs) le a.0 o got at)
+      ap (λ t. entries (if t then launch_one clock n (length qs) h ∷ launched_kept clock hs n (length qs + 1) (map item_of_kept ps) else h ∷ launched_kept clock hs n (length qs) (item_of_kept h ∷ map item_of_kept ps)) f') (is_its h (map item_of_kept ps) none)
+      ∙ ap (λ k. entry_of f' (launch_one clock n (length qs) h) ∷ entries (launched_kept clock hs n k (map item_of_kept ps)) f') (sym (length-append qs (q ∷ [])))
+      ∙ ap (λ es. entry_of f' (launch_one clock n (length qs) h) ∷ es) (rest ∙ ap (λ cs. map (launched_entry clock (n - 1) cs) (entries hs f)) (append_assoc qs (q ∷ []) (held_of (entries ps f))))
+      ∙ ap (λ e. e ∷ map (launched_entry clock (n - 1) (qs ++ q ∷ held_of (entries ps f))) (entries hs f)) (goes_seen clock max n f f' h (qs ++ q ∷ held_of (entries ps f)) (length qs) le a.0 o got at)
 
   pub launched_seen : (hs ps : List Kept) (b : ℕ) (qs : List Held) (fw : List Write) → Seen b hs ps qs fw
   launched_seen [] ps b qs fw len load u from r a s w = refl
   launched_seen (h ∷ hs) [] b qs fw len load u from r a s w =
       let none = place_none h.version qs [] (under_same b h.version qs from.0 u) tt in
-      λ i. stays_seen max n f f' h (qs ++ []) same a.0 none i ∷ launched_seen hs [] b qs fw len load u from.1 r.1 a.1 tt tt i
+      λ i. stays_seen clock max n f f' h (qs ++ []) same a.0 none i ∷ launched_seen hs [] b qs fw len load u from.1 r.1 a.1 tt tt i
   launched_seen (h ∷ hs) (p ∷ ps) b qs fw len load u from r a (inl s) w =
-      subst (λ (x : Kept). f' n ≡ fw ++ loads (x ∷ ps) → x.flies ≡ None → entries (launched_kept (h ∷ hs) n (length qs) (map item_of_kept (x ∷ ps))) f' ≡ map (launched_entry (n - 1) (qs ++ held_of (entries (x ∷ ps) f))) (entries (h ∷ hs) f)) (sym s.0)
+      subst (λ (x : Kept). f' n ≡ fw ++ loads (x ∷ ps) → x.flies ≡ None → entries (launched_kept clock (h ∷ hs) n (length qs) (map item_of_kept (x ∷ ps))) f' ≡ map (launched_entry clock (n - 1) (qs ++ held_of (entries (x ∷ ps) f))) (entries (h ∷ hs) f)) (sym s.0)
       (λ l none. goes_on b h hs ps qs fw (λ b' qs' fw'. launched_seen hs ps b' qs' fw') len l u from r a s.1 none w.1)
       load w.0
   launched_seen (h ∷ hs) (p ∷ ps) b qs fw len load u from r a (inr s) w =
       let over = above_sub h.version (p ∷ ps) hs s r.0 in
       let none = place_none h.version qs (held_of (entries (p ∷ ps) f)) (under_same b h.version qs from.0 u) (over_seen f h.version (p ∷ ps) over) in
-      ap (λ t. entries (if t then launch_one n (length qs) h ∷ launched_kept hs n (length qs + 1) (map item_of_kept ps) else h ∷ launched_kept hs n (length qs) (item_of_kept p ∷ map item_of_kept ps)) f') (is_later_one p h (map item_of_kept ps) over.0)
-      ∙ (λ i. stays_seen max n f f' h (qs ++ held_of (entries (p ∷ ps) f)) same a.0 none i ∷ launched_seen hs (p ∷ ps) b qs fw len load u from.1 r.1 a.1 s w i)
+      ap (λ t. entries (if t then launch_one clock n (length qs) h ∷ launched_kept clock hs n (length qs + 1) (map item_of_kept ps) else h ∷ launched_kept clock hs n (length qs) (item_of_kept p ∷ map item_of_kept ps)) f') (is_later_one p h (map item_of_kept ps) over.0)
+      ∙ (λ i. stays_seen clock max n f f' h (qs ++ held_of (entries (p ∷ ps) f)) same a.0 none i ∷ launched_seen hs (p ∷ ps) b qs fw len load u from.1 r.1 a.1 s w i)
 
 -- ---- requests in flight
 

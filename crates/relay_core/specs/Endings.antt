@@ -7,7 +7,7 @@ use Rattle.relay_results.specs.Numbers.{from_zero}
 use Rattle.relay_results.specs.Documents.{document_of, name_of, same_name}
 use Rattle.relay_results.specs.Outside.{Answer, Outside, MayAnswer}
 use Rattle.relay_delivery.specs.Machine.{Held, Report, write_of, reports_from}
-use Rattle.relay_delivery.specs.Lane.{held_of}
+use Rattle.relay_delivery.specs.Lane.{held_of, tries_in}
 use Rattle.relay_core.specs.declared.success.Success.{Success}
 use Rattle.relay_core.specs.Successes.{successes_from}
 use Rattle.relay_core.specs.State.{State, is_flying, writes_of, after_answer_to}
@@ -15,10 +15,10 @@ use Rattle.relay_core.specs.Ties.{Fits}
 
 -- the successes and the reports that an answer adds
 abbrev pub new_successes : State → ℕ → Answer → List Success
-new_successes s number a = successes_from s.core.config (from_zero number) (writes_of number s) a (held_of s.core.held)
+new_successes s number a = successes_from (tries_in s.core) (from_zero number) (writes_of number s) a (held_of s.core.held)
 
 abbrev pub new_reports : State → ℕ → Answer → List Report
-new_reports s number a = reports_from s.core.config (from_zero number) (writes_of number s) a (held_of s.core.held)
+new_reports s number a = reports_from (tries_in s.core) (from_zero number) (writes_of number s) a (held_of s.core.held)
 
 -- these have this name
 abbrev pub is_held_as : OpName → Held → Bool

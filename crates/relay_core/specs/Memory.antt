@@ -56,7 +56,7 @@ abbrev pub held_seen : (ℕ → List Write) → Kept → Held
 held_seen f h = record { op = op_of h f; version = h.version; sends = h.sends; attempts = h.attempts; cap = h.cap; flies = option_map place_at h.flies }
 
 abbrev pub entry_of : (ℕ → List Write) → Kept → Entry
-entry_of f h = record { held = held_seen f h; bytes = h.bytes; taken_at = h.taken_at; due = h.due }
+entry_of f h = record { held = held_seen f h; bytes = h.bytes; taken_at = h.taken_at; since = h.since; due = h.due }
 
 abbrev pub entries : List Kept → (ℕ → List Write) → List Entry
 entries hs f = map (entry_of f) hs
@@ -159,6 +159,7 @@ kept_new o version bytes clock cap = record {
   bytes = bytes;
   cap = cap;
   taken_at = clock;
+  since = clock;
   due = clock;
   sends = 0;
   attempts = 0;

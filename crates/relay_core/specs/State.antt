@@ -46,7 +46,7 @@ pub record Seen : Type 0 where
   pub looks : ℕ
 
 abbrev pub config_of : RelayConfig → Config
-config_of c = in_epoch c.epoch c.deal c.attempts c.limits.count
+config_of c = in_epoch c.epoch c.deal c.attempts c.give_up_after c.limits.count
 
 -- this many senders, none of which has closed
 abbrev pub all_open : ℕ → List Bool
@@ -173,7 +173,7 @@ abbrev pub after_answer_to : State → ℕ → Answer → State
 after_answer_to s number a = record s {
   core = delivery.after_answer_to s.core number a;
   flights = flight.without_batch number s.flights;
-  successes = s.successes ++ successes_from s.core.config (from_zero number) (writes_of number s) a (delivery.held_of s.core.held);
+  successes = s.successes ++ successes_from (delivery.tries_in s.core) (from_zero number) (writes_of number s) a (delivery.held_of s.core.held);
 }
 
 -- the report at a place has this reason
@@ -201,7 +201,7 @@ is_retried_fate (fates.Reported cause) = false
 
 -- the number of operations whose fate, by an answer, passes the test
 abbrev pub count_fates : (fates.Fate → Bool) → State → ℕ → Answer → ℕ
-count_fates test s number a = how_many test s.core.config (from_zero number) (writes_of number s) a (delivery.held_of s.core.held)
+count_fates test s number a = how_many test (delivery.tries_in s.core) (from_zero number) (writes_of number s) a (delivery.held_of s.core.held)
 
 -- the counts are those of the operations with these fates
 pub record AreCounts (s : State) (number : ℕ) (a : Answer) (c : Settled) : Type 0 where

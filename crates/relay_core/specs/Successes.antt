@@ -6,7 +6,7 @@ use Rattle.relay_results.specs.Documents.{name_of}
 use Rattle.relay_results.specs.Matching.{matches}
 use Rattle.relay_results.specs.Outside.{Answer, Unanswered, Items, Whole, Lost}
 use Rattle.relay_results.specs.Fates.{Fate, Flies, Applied, Already, Retried, Halved, Reported}
-use Rattle.relay_delivery.specs.Machine.{Config, Place, Held, fate_of}
+use Rattle.relay_delivery.specs.Machine.{Place, Held, fate_of}
 use Rattle.relay_core.specs.declared.success.Success.{Success}
 
 -- the status of the entry at a place, if the answer has entries that match
@@ -31,6 +31,6 @@ success_of Retried status h = []
 success_of (Halved cap) status h = []
 success_of (Reported cause) status h = []
 
-abbrev pub successes_from : Config → ℕ → List Write → Answer → List Held → List Success
-successes_from g number ws a [] = []
-successes_from g number ws a (h ∷ hs) = success_of (fate_of g number ws a h h.flies) (status_of ws a h.flies) h ++ successes_from g number ws a hs
+abbrev pub successes_from : (ℕ → ℕ) → ℕ → List Write → Answer → List Held → List Success
+successes_from allowed number ws a [] = []
+successes_from allowed number ws a (h ∷ hs) = success_of (fate_of allowed number ws a h h.flies) (status_of ws a h.flies) h ++ successes_from allowed number ws a hs

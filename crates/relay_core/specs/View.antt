@@ -14,7 +14,7 @@ abbrev pub state_of : Inside → State
 state_of a = record {
   config = a.config;
   core = record {
-    config = record { epoch = a.config.epoch; first = a.first; deals = a.config.deal; max = a.config.attempts; cap = a.config.limits.count };
+    config = record { epoch = a.config.epoch; first = a.first; deals = a.config.deal; max = a.config.attempts; age = a.config.give_up_after; cap = a.config.limits.count };
     clock = a.held.clock;
     taken = a.taken;
     requests = a.flight.next - 1;
@@ -42,14 +42,14 @@ pub record IsSound (a : Inside) : Type 0 where
   pub places : vec_len a.successes + length a.held.list ≤ vec_capacity a.successes
   pub few : length a.held.list ≤ a.config.max_held
   pub limit : a.config.max_held ≤ 65536
-  pub tries : (1 ≤ a.config.attempts) × (a.config.attempts ≤ 32)
+  pub tries : (1 ≤ a.config.attempts) × (a.config.attempts ≤ 2097152)
   pub senders : vec_len a.closed ≡ a.config.producers + 1
   pub first : 1 ≤ a.first
   pub versions : a.first + a.config.deal ≤ 9000000000000000001
-  pub dealt : a.config.deal ≤ 2 ^ 56
+  pub dealt : a.config.deal ≤ 2 ^ 40
   pub counted : a.taken ≤ a.config.deal + vec_len a.reports
   pub done : a.applied + a.already + length a.held.list ≤ min a.taken a.config.deal
-  pub left : (a.flight.next - 1) + tries_left a.config.attempts a.held.list ≤ 46 * min a.taken a.config.deal
+  pub left : (a.flight.next - 1) + tries_left a.config.attempts a.held.list ≤ 2097166 * min a.taken a.config.deal
   pub config : is_valid a.config ≡ true
   pub begins : a.first ≡ first_in a.config.epoch
   pub quiet : is_roomy a.room ≡ true

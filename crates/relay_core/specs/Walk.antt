@@ -9,7 +9,7 @@ use Rattle.relay_results.specs.Documents.{document_of}
 use Rattle.relay_results.specs.Fates.{fate_of_entry}
 use Rattle.relay_results.specs.Fates as of
 use Rattle.relay_delivery.specs.Machine as machine
-use Rattle.relay_delivery.specs.Lane.{backoff}
+use Rattle.relay_delivery.specs.Lane.{backoff, has_age}
 use Rattle.relay_results.specs.declared.cause.Cause.{Cause}
 use Rattle.relay_results.specs.declared.cause.Cause.TheVariants as cause
 use Rattle.relay_results.specs.declared.cause.LastTry.{LastTry}
@@ -42,16 +42,23 @@ abbrev pub is_next : List BatchItem → Kept → Bool
 is_next [] h = false
 is_next (i ∷ is) h = (h.version == i.version) && waits_here h.flies
 
-abbrev pub launched_kept : List Kept → ℕ → ℕ → List BatchItem → List Kept
-launched_kept [] number place is = []
-launched_kept (h ∷ hs) number place is =
-    if is_next is h then launch_one number place h ∷ launched_kept hs number (place + 1) (drop 1 is) else h ∷ launched_kept hs number place is
+abbrev pub launched_kept : ℕ → List Kept → ℕ → ℕ → List BatchItem → List Kept
+launched_kept clock [] number place is = []
+launched_kept clock (h ∷ hs) number place is =
+    if is_next is h then launch_one clock number place h ∷ launched_kept clock hs number (place + 1) (drop 1 is) else h ∷ launched_kept clock hs number place is
 
 abbrev pub freight : List Kept → List BatchItem → List Write
 freight [] is = []
 freight (h ∷ hs) is = if is_next is h then option_to_list h.write ++ freight hs (drop 1 is) else freight hs is
 
 -- ---- an answer arrives
+
+-- the tries that an operation has that was first sent then
+abbrev pub tries_since : machine.Config → ℕ → ℕ → ℕ
+tries_since g clock since = if has_age g.age clock since then machine.fewest g else g.max
+
+abbrev pub allowed_at : machine.Config → ℕ → Kept → ℕ
+allowed_at g clock h = tries_since g clock h.since
 
 -- the fate by the status of the whole request, without its reason, or else by the operation's entry
 abbrev pub fate_or : Way → (LastTry → of.Fate) → of.Fate
@@ -84,8 +91,8 @@ explained place given [] = []
 explained zero given (r ∷ rs) = record r { cause = with_reason given r.cause } ∷ rs
 explained (suc place) given (r ∷ rs) = r ∷ explained place given rs
 
-abbrev pub fate_met : ℕ → Way → Kept → List Outcome → of.Fate
-fate_met max whole h os = fate_or whole (fate_of_entry (record { version = h.version; sends = h.sends; attempts = h.attempts; max = max }) h.kind (slice_get os 0))
+abbrev pub fate_met : (Kept → ℕ) → Way → Kept → List Outcome → of.Fate
+fate_met allowed whole h os = fate_or whole (fate_of_entry (record { version = h.version; sends = h.sends; attempts = h.attempts; max = allowed h }) h.kind (slice_get os 0))
 
 abbrev pub stays : of.Fate → Bool
 stays of.Flies = true
@@ -160,39 +167,39 @@ tally_maybe p f None = 0
 tally_maybe p f (Some w) = tally (p f)
 
 -- the operations in flight in a request get its writes and the entries of its reply, one after another
-abbrev pub kept_walk : List Kept → ℕ → ℕ → ℕ → Way → List Write → List Outcome → List Kept
-kept_walk [] max clock number whole ws os = []
-kept_walk (h ∷ hs) max clock number whole ws os =
+abbrev pub kept_walk : List Kept → (Kept → ℕ) → ℕ → ℕ → Way → List Write → List Outcome → List Kept
+kept_walk [] allowed clock number whole ws os = []
+kept_walk (h ∷ hs) allowed clock number whole ws os =
     if flies_here number h.flies
-    then met_maybe clock (fate_met max whole h os) (slice_get ws 0) (h ∷ []) ++ kept_walk hs max clock number whole (drop 1 ws) (drop 1 os)
-    else h ∷ kept_walk hs max clock number whole ws os
+    then met_maybe clock (fate_met allowed whole h os) (slice_get ws 0) (h ∷ []) ++ kept_walk hs allowed clock number whole (drop 1 ws) (drop 1 os)
+    else h ∷ kept_walk hs allowed clock number whole ws os
 
-abbrev pub reports_walk : List Kept → ℕ → ℕ → Way → List Write → List Outcome → List machine.Report
-reports_walk [] max number whole ws os = []
-reports_walk (h ∷ hs) max number whole ws os =
+abbrev pub reports_walk : List Kept → (Kept → ℕ) → ℕ → Way → List Write → List Outcome → List machine.Report
+reports_walk [] allowed number whole ws os = []
+reports_walk (h ∷ hs) allowed number whole ws os =
     if flies_here number h.flies
-    then reports_maybe (fate_met max whole h os) (slice_get ws 0) (h ∷ []) ++ reports_walk hs max number whole (drop 1 ws) (drop 1 os)
-    else reports_walk hs max number whole ws os
+    then reports_maybe (fate_met allowed whole h os) (slice_get ws 0) (h ∷ []) ++ reports_walk hs allowed number whole (drop 1 ws) (drop 1 os)
+    else reports_walk hs allowed number whole ws os
 
-abbrev pub successes_walk : List Kept → ℕ → ℕ → Way → List Write → List Outcome → List Success
-successes_walk [] max number whole ws os = []
-successes_walk (h ∷ hs) max number whole ws os =
+abbrev pub successes_walk : List Kept → (Kept → ℕ) → ℕ → Way → List Write → List Outcome → List Success
+successes_walk [] allowed number whole ws os = []
+successes_walk (h ∷ hs) allowed number whole ws os =
     if flies_here number h.flies
-    then success_maybe (fate_met max whole h os) (status_in (slice_get os 0)) (slice_get ws 0) (h ∷ []) ++ successes_walk hs max number whole (drop 1 ws) (drop 1 os)
-    else successes_walk hs max number whole ws os
+    then success_maybe (fate_met allowed whole h os) (status_in (slice_get os 0)) (slice_get ws 0) (h ∷ []) ++ successes_walk hs allowed number whole (drop 1 ws) (drop 1 os)
+    else successes_walk hs allowed number whole ws os
 
-abbrev pub tally_walk : (of.Fate → Bool) → List Kept → ℕ → ℕ → Way → List Write → List Outcome → ℕ
-tally_walk p [] max number whole ws os = 0
-tally_walk p (h ∷ hs) max number whole ws os =
+abbrev pub tally_walk : (of.Fate → Bool) → List Kept → (Kept → ℕ) → ℕ → Way → List Write → List Outcome → ℕ
+tally_walk p [] allowed number whole ws os = 0
+tally_walk p (h ∷ hs) allowed number whole ws os =
     if flies_here number h.flies
-    then tally_maybe p (fate_met max whole h os) (slice_get ws 0) + tally_walk p hs max number whole (drop 1 ws) (drop 1 os)
-    else tally_walk p hs max number whole ws os
+    then tally_maybe p (fate_met allowed whole h os) (slice_get ws 0) + tally_walk p hs allowed number whole (drop 1 ws) (drop 1 os)
+    else tally_walk p hs allowed number whole ws os
 
 -- ---- one by one
 
 -- what an answer means for the operation that is the first of its document
-abbrev pub fate_one : ℕ → Way → Kept → Option Outcome → of.Fate
-fate_one max whole h entry = fate_or whole (fate_of_entry (record { version = h.version; sends = h.sends; attempts = h.attempts; max = max }) h.kind entry)
+abbrev pub fate_one : (Kept → ℕ) → Way → Kept → Option Outcome → of.Fate
+fate_one allowed whole h entry = fate_or whole (fate_of_entry (record { version = h.version; sends = h.sends; attempts = h.attempts; max = allowed h }) h.kind entry)
 
 abbrev pub after_one : ℕ → Write → List Kept → of.Fate → List Kept
 after_one clock w hs of.Flies = hs

@@ -1,6 +1,7 @@
 //! The config of a relay, and its limits.
 ghost use Rattle.std.specs.Prelude.{◌≡◌, ◌≤◌};
-ghost use Rattle.relay_core.specs.Limits.{is_from_to, are_valid_limits, is_valid};
+ghost use Rattle.relay_core.specs.Limits.{is_from_to, are_attempts, is_age, are_valid_limits};
+ghost use Rattle.relay_core.specs.Limits.{is_valid};
 ghost use Rattle.relay_delivery.specs.Machine.{first_in};
 
 use relay_batch::Limits;
@@ -29,8 +30,14 @@ pub const BYTES_LIMIT: u64 = 16_777_216;
 /// The maximum number of ticks for which a batch waits to be filled.
 pub const LINGER_LIMIT: u32 = 65_535;
 
-/// The maximum number of attempts of an operation.
+/// The maximum number of attempts of an operation, if they are limited.
 pub const ATTEMPT_LIMIT: u32 = 32;
+
+/// More attempts than a lane makes of an operation: with pauses of 6.4 s they take 155 days.
+pub const ATTEMPTS_UNLIMITED: u32 = 2_097_152;
+
+/// The highest age, in ticks, after which an operation that fails is given up: a week.
+pub const AGE_LIMIT: u32 = 6_048_000;
 
 /// The maximum number of requests of a lane in flight.
 pub const FLYING_LIMIT: u32 = 8;
@@ -55,8 +62,12 @@ pub struct RelayConfig {
     /// The limits of a batch: a count of 1 to 10,000, 1,024 to 16,777,216 bytes, and a linger time
     /// of at most 65,535 ticks.
     pub limits: Limits,
-    /// The maximum number of attempts of an operation before it is given up: 1 to 32.
+    /// The maximum number of attempts of an operation before it is given up: 1 to 32, or
+    /// [`ATTEMPTS_UNLIMITED`].
     pub attempts: u32,
+    /// After how many ticks since its first send an operation that fails again is given up: 1 to
+    /// 6,048,000, which is a week. `None`: only after its attempts.
+    pub give_up_after: Option<u32>,
     /// The maximum number of requests of a lane in flight: 1 to 8.
     pub in_flight: u32,
     /// The epoch, above those of all earlier incarnations: 0 to 4,194,303. A version is the epoch
@@ -70,6 +81,23 @@ fn is_from_to(least: u64, most: u64, n: u64) -> bool
     ensures { result ≡ is_from_to least most n }
 {
     least <= n && n <= most
+}
+
+// Whether this is a number of attempts.
+fn are_attempts(attempts: u32) -> bool
+    ensures { result ≡ are_attempts attempts }
+{
+    is_from_to(1, ATTEMPT_LIMIT as u64, attempts as u64) || attempts == ATTEMPTS_UNLIMITED
+}
+
+// Whether this is an age after which operations are given up.
+fn is_age(age: Option<u32>) -> bool
+    ensures { result ≡ is_age age }
+{
+    match age {
+        Some(ticks) => is_from_to(1, AGE_LIMIT as u64, ticks as u64),
+        None => true,
+    }
 }
 
 fn are_valid(limits: Limits) -> bool
@@ -97,7 +125,8 @@ impl RelayConfig {
             && is_from_to(1, CAPACITY_LIMIT as u64, self.capacity as u64)
             && is_from_to(1, HELD_LIMIT as u64, self.max_held as u64)
             && are_valid(self.limits)
-            && is_from_to(1, ATTEMPT_LIMIT as u64, self.attempts as u64)
+            && are_attempts(self.attempts)
+            && is_age(self.give_up_after)
             && is_from_to(1, FLYING_LIMIT as u64, self.in_flight as u64)
             && self.epoch <= EPOCH_LIMIT
             && is_from_to(1, DEAL_LIMIT, self.deal)

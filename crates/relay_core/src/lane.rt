@@ -504,7 +504,7 @@ impl Lane {
             &mut self.held,
             &mut self.reports,
             &mut self.successes,
-            self.config.attempts,
+            &self.config,
             clock,
             number,
             request.writes,
@@ -527,7 +527,7 @@ impl Lane {
 
     /// The reply to a request was lost or could not be read, or the request could not be sent, for
     /// this reason: each of its operations waits to be sent again, or is given up if its attempts
-    /// are used up.
+    /// are used up or it is too old, that is, its first send was `give_up_after` ticks ago or more.
     /// [`NotFlying`]: no request with this number is in flight, and the lane is unchanged. It does
     /// not allocate.
     pub fn lost(&mut self, number: u64, why: Loss) -> Result<Settled, NotFlying>

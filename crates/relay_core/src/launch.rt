@@ -25,7 +25,7 @@ pub(crate) fn launch(held: &mut Held, number: u64, count: usize, writes: &mut Ve
     requires count { count ≤ length (candidates_kept held.old.list held.old.clock) }
     requires room { vec_len writes.old + count ≤ vec_capacity writes.old }
     ensures held { held.new.list
-        ≡ launched_kept held.old.list number 0
+        ≡ launched_kept held.old.clock held.old.list number 0
         (map item_of_kept (take count (candidates_kept held.old.list held.old.clock))) }
     ensures clock { held.new.clock ≡ held.old.clock }
     ensures looks { held.new.looks ≡ held.old.looks }

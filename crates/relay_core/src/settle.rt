@@ -8,11 +8,13 @@ ghost use Rattle.relay_results.specs.Documents.{document_of};
 ghost use Rattle.relay_held.specs.declared.kept.Kept.{Kept};
 ghost use Rattle.relay_core.specs.Walk.{waits_here, with_first, without_first, first_of, back};
 ghost use Rattle.relay_core.specs.Walk.{after_one, fate_one, reports_one, said, report_of, tally};
+ghost use Rattle.relay_core.specs.Walk.{tries_since, allowed_at};
 ghost use Rattle.relay_core.specs.Walk.{explained, kept_walk, reports_walk, tally_walk};
 ghost use Rattle.relay_core.specs.Walk.{status_in, success_one, successes_walk};
 ghost use Rattle.relay_core.specs.Memory.{Carries};
-ghost use Rattle.relay_core.specs.State.{is_reported_fate, is_retried_fate};
+ghost use Rattle.relay_core.specs.State.{config_of, is_reported_fate, is_retried_fate};
 
+use crate::config::RelayConfig;
 use crate::fates::{Fate, Way, fate_in};
 use crate::report::Report;
 use crate::settled::Settled;
@@ -192,10 +194,29 @@ fn status_in(entry: &Option<Outcome>) -> Option<u16>
     }
 }
 
+// The tries that an operation has that was first sent at `since`.
+fn tries_since(config: &RelayConfig, clock: u64, since: u64) -> u32
+    ensures { result ≡ tries_since (config_of config.now) clock since }
+{
+    match config.give_up_after {
+        Some(age) => match since.checked_add(u64::from(age)) {
+            Some(end) => {
+                if end <= clock {
+                    config.attempts.min(1)
+                } else {
+                    config.attempts
+                }
+            }
+            None => config.attempts,
+        },
+        None => config.attempts,
+    }
+}
+
 // Settles the operation of a write by its entry.
 fn settle_one(
     held: &mut Held,
-    max: u32,
+    config: &RelayConfig,
     clock: u64,
     write: Write,
     whole: Way,
@@ -211,42 +232,52 @@ fn settle_one(
     requires flies { (h : Kept) → first_of write.key held.old.list ≡ Some h
         → waits_here h.flies ≡ false }
     ensures held { (h : Kept) → first_of write.key held.old.list ≡ Some h
-        → held.new.list ≡ after_one clock write held.old.list (fate_one max whole h entry) }
+        → held.new.list ≡ after_one clock write held.old.list
+        (fate_one (allowed_at (config_of config.now) clock) whole h entry) }
     ensures clock { held.new.clock ≡ held.old.clock }
     ensures looks { held.new.looks ≡ held.old.looks }
     ensures reports { (h : Kept) → first_of write.key held.old.list ≡ Some h
         → map report_of reports.new.items
-        ≡ map report_of reports.old.items ++ reports_one (fate_one max whole h entry) h write }
+        ≡ map report_of reports.old.items
+        ++ reports_one (fate_one (allowed_at (config_of config.now) clock) whole h entry) h write }
     ensures capacity { vec_capacity reports.new ≡ vec_capacity reports.old }
     ensures len { (h : Kept) → first_of write.key held.old.list ≡ Some h
         → vec_len reports.new
-        ≡ vec_len reports.old + tally (is_reported_fate (fate_one max whole h entry)) }
+        ≡ vec_len reports.old
+        + tally (is_reported_fate (fate_one (allowed_at (config_of config.now) clock) whole h entry)) }
     ensures successes { (h : Kept) → first_of write.key held.old.list ≡ Some h
         → successes.new.items
         ≡ successes.old.items
-        ++ success_one (fate_one max whole h entry) (status_in entry) h write }
+        ++ success_one (fate_one (allowed_at (config_of config.now) clock) whole h entry)
+        (status_in entry) h write }
     ensures places { vec_capacity successes.new ≡ vec_capacity successes.old }
     ensures more { (h : Kept) → first_of write.key held.old.list ≡ Some h
         → vec_len successes.new
-        ≡ vec_len successes.old + tally (is_applied_fate (fate_one max whole h entry))
-        + tally (is_already_fate (fate_one max whole h entry)) }
+        ≡ vec_len successes.old
+        + tally (is_applied_fate (fate_one (allowed_at (config_of config.now) clock) whole h entry))
+        + tally (is_already_fate (fate_one (allowed_at (config_of config.now) clock) whole h entry)) }
     ensures applied { (h : Kept) → first_of write.key held.old.list ≡ Some h
         → counts.new.applied
-        ≡ counts.old.applied + tally (is_applied_fate (fate_one max whole h entry)) }
+        ≡ counts.old.applied
+        + tally (is_applied_fate (fate_one (allowed_at (config_of config.now) clock) whole h entry)) }
     ensures already { (h : Kept) → first_of write.key held.old.list ≡ Some h
         → counts.new.already
-        ≡ counts.old.already + tally (is_already_fate (fate_one max whole h entry)) }
+        ≡ counts.old.already
+        + tally (is_already_fate (fate_one (allowed_at (config_of config.now) clock) whole h entry)) }
     ensures reported { (h : Kept) → first_of write.key held.old.list ≡ Some h
         → counts.new.reported
-        ≡ counts.old.reported + tally (is_reported_fate (fate_one max whole h entry)) }
+        ≡ counts.old.reported
+        + tally (is_reported_fate (fate_one (allowed_at (config_of config.now) clock) whole h entry)) }
     ensures retried { (h : Kept) → first_of write.key held.old.list ≡ Some h
         → counts.new.retried
-        ≡ counts.old.retried + tally (is_retried_fate (fate_one max whole h entry)) }
+        ≡ counts.old.retried
+        + tally (is_retried_fate (fate_one (allowed_at (config_of config.now) clock) whole h entry)) }
     ensures matched { counts.new.matched ≡ counts.old.matched }
 {
     if let Some(one) = held.first(&write.key) {
         let attempts = one.attempts;
         let status = status_in(&entry);
+        let max = tries_since(config, clock, one.since);
         let fate = fate_in(one, whole, entry, max);
         meet(
             held, fate, write, clock, attempts, status, reports, successes, counts,
@@ -279,7 +310,7 @@ pub(crate) fn settle_walk(
     held: &mut Held,
     reports: &mut Vec<Report>,
     successes: &mut Vec<Success>,
-    max: u32,
+    config: &RelayConfig,
     clock: u64,
     number: u64,
     writes: Vec<Write>,
@@ -291,23 +322,30 @@ pub(crate) fn settle_walk(
     requires few { length held.old.list ≤ 65536 }
     requires carries { Carries number 0 held.old.list writes.items }
     ensures held { held.new.list
-        ≡ kept_walk held.old.list max clock number whole writes.items outcomes.items }
+        ≡ kept_walk held.old.list
+        (allowed_at (config_of config.now) clock) clock number whole writes.items outcomes.items }
     ensures clock { held.new.clock ≡ held.old.clock }
     ensures looks { held.new.looks ≡ held.old.looks }
     ensures reports { map report_of reports.new.items
         ≡ map report_of reports.old.items
-        ++ reports_walk held.old.list max number whole writes.items outcomes.items }
+        ++ reports_walk held.old.list
+        (allowed_at (config_of config.now) clock) number whole writes.items outcomes.items }
     ensures successes { successes.new.items
         ≡ successes.old.items
-        ++ successes_walk held.old.list max number whole writes.items outcomes.items }
+        ++ successes_walk held.old.list
+        (allowed_at (config_of config.now) clock) number whole writes.items outcomes.items }
     ensures applied { result.applied
-        ≡ tally_walk is_applied_fate held.old.list max number whole writes.items outcomes.items }
+        ≡ tally_walk is_applied_fate held.old.list
+        (allowed_at (config_of config.now) clock) number whole writes.items outcomes.items }
     ensures already { result.already
-        ≡ tally_walk is_already_fate held.old.list max number whole writes.items outcomes.items }
+        ≡ tally_walk is_already_fate held.old.list
+        (allowed_at (config_of config.now) clock) number whole writes.items outcomes.items }
     ensures reported { result.reported
-        ≡ tally_walk is_reported_fate held.old.list max number whole writes.items outcomes.items }
+        ≡ tally_walk is_reported_fate held.old.list
+        (allowed_at (config_of config.now) clock) number whole writes.items outcomes.items }
     ensures retried { result.retried
-        ≡ tally_walk is_retried_fate held.old.list max number whole writes.items outcomes.items }
+        ≡ tally_walk is_retried_fate held.old.list
+        (allowed_at (config_of config.now) clock) number whole writes.items outcomes.items }
     ensures room { vec_len reports.new + length held.new.list ≤ vec_capacity reports.new }
     ensures places { vec_len successes.new + length held.new.list ≤ vec_capacity successes.new }
     ensures fewer { length held.new.list ≤ length held.old.list }
@@ -329,7 +367,7 @@ pub(crate) fn settle_walk(
         let entry = next_of(&mut left);
         settle_one(
             held,
-            max,
+            config,
             clock,
             write,
             whole,

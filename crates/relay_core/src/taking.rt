@@ -64,6 +64,7 @@ pub(crate) fn kept_of(op: Op, key: DocKey, version: u64, clock: u64, cap: u32) -
         bytes: write_len(&write),
         cap,
         taken_at: clock,
+        since: clock,
         due: clock,
         sends: 0,
         attempts: 0,

@@ -5,7 +5,7 @@ use relay_core::{RelayConfig, TakeFault};
 use std::test::Fail;
 
 // Each number one below, at and one above its limits.
-const CONFIGS: [(RelayConfig, bool); 23] = [
+const CONFIGS: [(RelayConfig, bool); 31] = [
     (RelayConfig { lanes: 0, ..CONFIG }, false),
     (RelayConfig { lanes: 8, ..CONFIG }, true),
     (RelayConfig { lanes: 9, ..CONFIG }, false),
@@ -102,6 +102,13 @@ const CONFIGS: [(RelayConfig, bool); 23] = [
     ),
     (
         RelayConfig {
+            attempts: 0,
+            ..CONFIG
+        },
+        false,
+    ),
+    (
+        RelayConfig {
             attempts: 32,
             ..CONFIG
         },
@@ -110,6 +117,55 @@ const CONFIGS: [(RelayConfig, bool); 23] = [
     (
         RelayConfig {
             attempts: 33,
+            ..CONFIG
+        },
+        false,
+    ),
+    (
+        RelayConfig {
+            attempts: 2_097_151,
+            ..CONFIG
+        },
+        false,
+    ),
+    (
+        RelayConfig {
+            attempts: 2_097_152,
+            ..CONFIG
+        },
+        true,
+    ),
+    (
+        RelayConfig {
+            attempts: 2_097_153,
+            ..CONFIG
+        },
+        false,
+    ),
+    (
+        RelayConfig {
+            give_up_after: Some(0),
+            ..CONFIG
+        },
+        false,
+    ),
+    (
+        RelayConfig {
+            give_up_after: Some(1),
+            ..CONFIG
+        },
+        true,
+    ),
+    (
+        RelayConfig {
+            give_up_after: Some(6_048_000),
+            ..CONFIG
+        },
+        true,
+    ),
+    (
+        RelayConfig {
+            give_up_after: Some(6_048_001),
             ..CONFIG
         },
         false,

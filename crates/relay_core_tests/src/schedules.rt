@@ -1,6 +1,7 @@
 //! Worked schedules of a lane.
 use crate::desk::{CONFIG, Entry, Step, goes};
 use relay_batch::Limits;
+use relay_core::config::ATTEMPTS_UNLIMITED;
 use relay_core::{RelayConfig, TakeFault, Totals};
 use std::alloc::{AllocError, Global};
 use std::test::Fail;
@@ -180,21 +181,122 @@ const LOST_AT_LAST: &[Step<'static>] = &[
     Step::Held(0),
 ];
 
-// The steps of nine attempts, with these pauses between the first eight of them.
-fn nine_steps(alloc: Global, pauses: &[u32]) -> Result<Vec<Step<'static>>, AllocError> {
+// The steps of attempts that are lost, with these pauses between them, and then these steps.
+fn lost_steps(
+    alloc: Global,
+    pauses: &[u32],
+    last: &[Step<'static>],
+) -> Result<Vec<Step<'static>>, AllocError> {
     let mut steps = Vec::from_slice(alloc, LOST)?;
     for pause in pauses {
         steps.extend_from_slice(&lost_after(*pause))?;
     }
-    steps.extend_from_slice(LOST_AT_LAST)?;
+    steps.extend_from_slice(last)?;
     Ok(steps)
 }
 
 // Nine attempts, each lost immediately: the pauses are 1, 2, 4 and so on, at most 64.
 #[test]
 fn nine_attempts(rt: HostRuntime) -> Result<(), Fail> {
-    let steps = nine_steps(rt.alloc(), &[1, 2, 4, 8, 16, 32, 64])?;
+    let steps = lost_steps(rt.alloc(), &[1, 2, 4, 8, 16, 32, 64], LOST_AT_LAST)?;
     assert!(rt; goes(rt.alloc(), NINE_ATTEMPTS, &steps, &[(1, 4, 9)])?);
+    Ok(())
+}
+
+const UNLIMITED: RelayConfig = RelayConfig {
+    attempts: ATTEMPTS_UNLIMITED,
+    ..CONFIG
+};
+
+// The pauses after 32 attempts.
+const PAUSES: [u32; 32] = [
+    1, 2, 4, 8, 16, 32, 64, 64, 64, 64, 64, 64, 64, 64, 64, 64, 64, 64, 64, 64, 64, 64, 64, 64, 64,
+    64, 64, 64, 64, 64, 64, 64,
+];
+
+// It is sent once more, and applied.
+const CREATED_AT_LAST: &[Step<'static>] = &[
+    Step::Ticks(64),
+    Step::Sends(&[("1", 1)]),
+    Step::Items(&CREATED, [1, 0, 0, 0]),
+    Step::Held(0),
+];
+
+// Without a limit an operation is retried after its 33rd attempt too.
+#[test]
+fn attempts_without_a_limit(rt: HostRuntime) -> Result<(), Fail> {
+    let steps = lost_steps(rt.alloc(), &PAUSES, CREATED_AT_LAST)?;
+    assert!(rt; goes(rt.alloc(), UNLIMITED, &steps, &[])?);
+    Ok(())
+}
+
+// An operation that fails five ticks after its first send or later is given up.
+const FIVE_TICKS: RelayConfig = RelayConfig {
+    attempts: ATTEMPTS_UNLIMITED,
+    give_up_after: Some(5),
+    ..CONFIG
+};
+
+// The second operation waits for ten ticks before its first send. It is retried four ticks after
+// that, and given up five ticks after it, immediately after its second send.
+const TOO_OLD: &[Step<'static>] = &[
+    Step::Put("1", "{}"),
+    Step::Sends(&[("1", 1)]),
+    Step::Put("2", "{}"),
+    Step::Ticks(10),
+    Step::SendsNone,
+    Step::Items(&CREATED, [1, 0, 0, 0]),
+    Step::Sends(&[("2", 2)]),
+    Step::Ticks(4),
+    Step::Lost([0, 0, 0, 1]),
+    Step::DueIn(1),
+    Step::Ticks(1),
+    Step::Sends(&[("2", 2)]),
+    Step::Lost([0, 0, 1, 0]),
+    Step::Held(0),
+];
+
+#[test]
+fn given_up_by_age(rt: HostRuntime) -> Result<(), Fail> {
+    assert!(rt; goes(rt.alloc(), FIVE_TICKS, TOO_OLD, &[(2, 4, 2)])?);
+    Ok(())
+}
+
+// The second document is busy.
+const BUSY: [Entry<'static>; 1] = [Entry::Index("2", 429)];
+
+// A request that is halved is no failure, but the first send is the one before it: each operation
+// is given up at the first failure after that, by its entry and by the status of its request. An old
+// one that succeeds is applied.
+const HALVED_WHEN_OLD: &[Step<'static>] = &[
+    Step::Put("1", "{}"),
+    Step::Put("2", "{}"),
+    Step::Put("3", "{}"),
+    Step::Sends(&[("1", 1), ("2", 2), ("3", 3)]),
+    Step::Ticks(5),
+    Step::Whole(413, [0, 0, 0, 3]),
+    Step::Sends(&[("1", 1)]),
+    Step::Items(&CREATED, [1, 0, 0, 0]),
+    Step::Sends(&[("2", 2)]),
+    Step::Items(&BUSY, [0, 0, 1, 0]),
+    Step::Sends(&[("3", 3)]),
+    Step::Whole(503, [0, 0, 1, 0]),
+    Step::Put("3", "{}"),
+    Step::Sends(&[("3", 4)]),
+    Step::Whole(503, [0, 0, 0, 1]),
+    Step::Held(1),
+];
+
+#[test]
+fn given_up_after_a_halving(rt: HostRuntime) -> Result<(), Fail> {
+    assert!(rt;
+        goes(
+            rt.alloc(),
+            FIVE_TICKS,
+            HALVED_WHEN_OLD,
+            &[(2, 4, 2), (3, 4, 2)]
+        )?
+    );
     Ok(())
 }
 

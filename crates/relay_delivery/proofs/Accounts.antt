@@ -34,7 +34,7 @@ over_from (x ∷ ps) p q o m a = ⊎_elim
 
 -- a config above another, whatever its own are
 abbrev pub next : Config → Config
-next g = record { epoch = g.epoch + 1; first = g.first + g.deals; deals = g.deals; max = g.max; cap = g.cap }
+next g = record { epoch = g.epoch + 1; first = g.first + g.deals; deals = g.deals; max = g.max; age = g.age; cap = g.cap }
 
 module _ (stored : Document → Option ℕ) (g : Config) (lane_of : Document → ℕ) (ended : List Incarnation) (s : Together) (f : LifeFacts stored lane_of (record { ended = ended; config = g; together = s })) where
   abbrev this : Incarnation
@@ -179,7 +179,7 @@ restart_together stored g new lane_of ended s c up = record {
 }
 
 pub epochs_are_above : EpochsAreAbove
-epochs_are_above e f deals more max least cap other lt few = record { epoch = lt; versions = omega (arith, lt, few) }
+epochs_are_above e f deals more max least cap other age years lt few = record { epoch = lt; versions = omega (arith, lt, few) }
 
 -- ---- the one outside
 

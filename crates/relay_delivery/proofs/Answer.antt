@@ -15,12 +15,12 @@ use Rattle.relay_results.specs.Laws.{Says}
 use Rattle.relay_results.specs.declared.cause.Cause.TheVariants as cause
 use Rattle.relay_delivery.specs.Causes.{carries, is_try, CarriedAt, IsAnswered, IsTrueOf}
 use Rattle.relay_results.proofs.Same.{same_write-self}
-use Rattle.relay_delivery.specs.Machine.{Config, Core, Held, Place, Report, write_of, report_on, back_to_wait, with_cap, still_held, reports_from, writes_or, settle, how_many, is_applied_fate, is_already_fate}
+use Rattle.relay_delivery.specs.Machine.{Config, Core, Held, Place, Report, write_of, report_on, back_to_wait, with_cap, still_held, reports_from, writes_or, settle, fewest, tries_for, how_many, is_applied_fate, is_already_fate}
 use Rattle.relay_results.proofs.Fates.{says_as, halved_retried, honest_entry}
 use Rattle.relay_results.proofs.Lists.{equal, equal_or_not, at-Mem, Mem-cases, Mem-left, Mem-right, at-update-cases, at-update_same, at-update_other, true_or_false, count-update, count-update_at, count-append, count_some, some_same}
 use Rattle.relay_delivery.proofs.Facts.{Past, IsKnown, TellsOwn, IsSent, HeldFact, RunFact, IndexFact, ReportFact, IsSomewhere, CoreFacts, is_report_as}
 use Rattle.relay_delivery.proofs.Dealt.{write_once, of_held, with_answer, sent_answered, carries_at, carried_at}
-use Rattle.relay_delivery.proofs.Fates.{turn, StaysAs, kept_as, kept_is, kept_version, kept-from, reported-from, goes_to, count-settled, totals-settled, rising-settled, IsAway, IsHere, away_or_here}
+use Rattle.relay_delivery.proofs.Fates.{fewest-least, turn, StaysAs, kept_as, kept_is, kept_version, kept-from, reported-from, goes_to, count-settled, totals-settled, rising-settled, IsAway, IsHere, away_or_here}
 
 -- what a run of a write says
 record RunSays (versions : ℕ → Type 0) (stored : Document → Option ℕ) (applied : Document → List Write) (w : Write) (o : RunOutcome) : Type 0 where
@@ -34,7 +34,11 @@ own_stated None own u e t = absurd (cc)
 own_stated (Some v) own u e t = let d = equal v own t in let x : v ≡ u = cc in sym x ∙ d
 
 module _ (g : Config) (past : Past) (c : Core) (f : CoreFacts g past c) (number : ℕ) (q : Request) (stands : slice_get c.outside.requests number ≡ Some q) (unanswered : q.answer ≡ Unanswered) (a : Answer)
-    (answered : a ≡ Unanswered → ⊥) (honest : IsHonest c.outside.runs number q.writes a) where
+    (answered : a ≡ Unanswered → ⊥) (honest : IsHonest c.outside.runs number q.writes a) (old : ℕ → Bool) where
+  -- the tries of each operation, by its version
+  abbrev allowed : ℕ → ℕ
+  allowed = tries_for g old
+
   abbrev requests : List Request
   requests = c.outside.requests
 
@@ -112,7 +116,7 @@ module _ (g : Config) (past : Past) (c : Core) (f : CoreFacts g past c) (number 
       omega (arith, e, n, m)
 
   -- it does not carry what flies elsewhere
-  not_carried : (h : Held) → Mem h c.held → IsAway g number q.writes a h → carries (write_of h) q ≡ false
+  not_carried : (h : Held) → Mem h c.held → IsAway allowed number q.writes a h → carries (write_of h) q ≡ false
   not_carried h m w = ⊎_elim {C = carries (write_of h) q ≡ false}
       (λ t.
       let k = carried_at requests number q (write_of h) stands t in
@@ -122,7 +126,7 @@ module _ (g : Config) (past : Past) (c : Core) (f : CoreFacts g past c) (number 
 
   -- ---- held operations
 
-  held-stays : (h : Held) → Mem h c.held → IsAway g number q.writes a h → HeldFact g c.taken new h
+  held-stays : (h : Held) → Mem h c.held → IsAway allowed number q.writes a h → HeldFact g c.taken new h
   held-stays h m w =
       let k = f.held h m in
       record {
@@ -144,7 +148,7 @@ module _ (g : Config) (past : Past) (c : Core) (f : CoreFacts g past c) (number 
       }
 
   -- a request that carried it and does not have this answer was answered before
-  others_retried : (h : Held) → Mem h c.held → (w : IsHere g number q.writes a h) → IsRetried q.writes w.place a → (i place : ℕ) (p : Request) → CarriedAt new (write_of h) i place p → IsRetried p.writes place p.answer
+  others_retried : (h : Held) → Mem h c.held → (w : IsHere allowed number q.writes a h) → IsRetried q.writes w.place a → (i place : ℕ) (p : Request) → CarriedAt new (write_of h) i place p → IsRetried p.writes place p.answer
   others_retried h m w again i place p y = ⊎_elim
       (λ l. ⊎_elim
       (λ z. z)
@@ -159,13 +163,13 @@ module _ (g : Config) (past : Past) (c : Core) (f : CoreFacts g past c) (number 
       (new_cases i p y.sent)
 
   abbrev SaysOf : Held → ℕ → Fate → Type 0
-  SaysOf h place t = Says (record { version = h.version; sends = h.sends; attempts = h.attempts; max = g.max }) q.writes place (kind_of h.op.action) a t
+  SaysOf h place t = Says (record { version = h.version; sends = h.sends; attempts = h.attempts; max = allowed h.version }) q.writes place (kind_of h.op.action) a t
 
   -- what its fate says
-  says : (h : Held) → (w : IsHere g number q.writes a h) → (t : Fate) → turn g number q.writes a h ≡ t → SaysOf h w.place t
-  says h w t e = says_as (record { version = h.version; sends = h.sends; attempts = h.attempts; max = g.max }) q.writes w.place (kind_of h.op.action) a t (sym w.fate_is ∙ e)
+  says : (h : Held) → (w : IsHere allowed number q.writes a h) → (t : Fate) → turn allowed number q.writes a h ≡ t → SaysOf h w.place t
+  says h w t e = says_as (record { version = h.version; sends = h.sends; attempts = h.attempts; max = allowed h.version }) q.writes w.place (kind_of h.op.action) a t (sym w.fate_is ∙ e)
 
-  held-landed : (h : Held) → Mem h c.held → (w : IsHere g number q.writes a h) → turn g number q.writes a h ≡ Retried → HeldFact g c.taken new (back_to_wait h)
+  held-landed : (h : Held) → Mem h c.held → (w : IsHere allowed number q.writes a h) → turn allowed number q.writes a h ≡ Retried → HeldFact g c.taken new (back_to_wait h)
   held-landed h m w t =
       let k = f.held h m in
       record {
@@ -177,7 +181,7 @@ module _ (g : Config) (past : Past) (c : Core) (f : CoreFacts g past c) (number 
         last = λ x s doc. k.last x (sent_answered c.outside.requests number a x s) doc;
       }
 
-  held-halved : (h : Held) → Mem h c.held → (w : IsHere g number q.writes a h) (cap : ℕ) → turn g number q.writes a h ≡ Halved cap → HeldFact g c.taken new (with_cap cap h)
+  held-halved : (h : Held) → Mem h c.held → (w : IsHere allowed number q.writes a h) (cap : ℕ) → turn allowed number q.writes a h ≡ Halved cap → HeldFact g c.taken new (with_cap cap h)
   held-halved h m w cap t =
       let k = f.held h m in
       let s = says h w (Halved cap) t in
@@ -191,16 +195,16 @@ module _ (g : Config) (past : Past) (c : Core) (f : CoreFacts g past c) (number 
       }
 
   -- what the run of an entry says of the operation that flies at its place
-  entry_run : (h : Held) (w : IsHere g number q.writes a h) (o : Outcome) → HasEntry q.writes w.place a o → WasRun c.outside.runs number w.place o
+  entry_run : (h : Held) (w : IsHere allowed number q.writes a h) (o : Outcome) → HasEntry q.writes w.place a o → WasRun c.outside.runs number w.place o
   entry_run h w o e = honest_entry c.outside.runs number w.place q.writes a o honest e
 
-  its_place : (h : Held) → Mem h c.held → (w : IsHere g number q.writes a h) → slice_get q.writes w.place ≡ Some (write_of h)
+  its_place : (h : Held) → Mem h c.held → (w : IsHere allowed number q.writes a h) → slice_get q.writes w.place ≡ Some (write_of h)
   its_place h m w =
       let v = (f.held h m).flying (record { request = number; place = w.place }) w.flies in
       let e : v.request ≡ q = some_same v.request q (sym v.sent ∙ stands) in
       subst (λ (z : Request). slice_get z.writes w.place ≡ Some (write_of h)) e v.stands
 
-  its_run : (h : Held) → Mem h c.held → (w : IsHere g number q.writes a h) (o : Outcome) (e : HasEntry q.writes w.place a o) → RunSays past.versions c.outside.stored c.outside.applied (write_of h) (entry_run h w o e).run.outcome
+  its_run : (h : Held) → Mem h c.held → (w : IsHere allowed number q.writes a h) (o : Outcome) (e : HasEntry q.writes w.place a o) → RunSays past.versions c.outside.stored c.outside.applied (write_of h) (entry_run h w o e).run.outcome
   its_run h m w o e =
       let y = entry_run h w o e in
       let r = f.runs y.run y.among in
@@ -213,7 +217,7 @@ module _ (g : Config) (past : Past) (c : Core) (f : CoreFacts g past c) (number 
   abbrev WasApplied : Held → Type 0
   WasApplied h = Mem (write_of h) (c.outside.applied (document_of h.op.key))
 
-  applied_now : (h : Held) → Mem h c.held → IsHere g number q.writes a h → turn g number q.writes a h ≡ Applied → WasApplied h
+  applied_now : (h : Held) → Mem h c.held → IsHere allowed number q.writes a h → turn allowed number q.writes a h ≡ Applied → WasApplied h
   applied_now h m w t =
       let s = says h w Applied t in
       let y = entry_run h w s.0 s.1 in
@@ -251,7 +255,7 @@ module _ (g : Config) (past : Past) (c : Core) (f : CoreFacts g past c) (number 
       (λ z. own_applied h m z.0 z.1 z.2)
       known
 
-  applied_before : TellsOwn g past c.outside.runs → (h : Held) → Mem h c.held → IsHere g number q.writes a h → turn g number q.writes a h ≡ Already → WasApplied h
+  applied_before : TellsOwn g past c.outside.runs → (h : Held) → Mem h c.held → IsHere allowed number q.writes a h → turn allowed number q.writes a h ≡ Already → WasApplied h
   applied_before tells h m w t =
       let s = (says h w Already t).1 in
       let y = entry_run h w s.0 s.1 in
@@ -266,18 +270,18 @@ module _ (g : Config) (past : Past) (c : Core) (f : CoreFacts g past c) (number 
       tells
 
   -- one that does not fly here is neither
-  pub ended : TellsOwn g past c.outside.runs → (h : Held) → Mem h c.held → (turn g number q.writes a h ≡ Applied) ⊎ (turn g number q.writes a h ≡ Already) → WasApplied h
+  pub ended : TellsOwn g past c.outside.runs → (h : Held) → Mem h c.held → (turn allowed number q.writes a h ≡ Applied) ⊎ (turn allowed number q.writes a h ≡ Already) → WasApplied h
   ended tells h m t = ⊎_elim
       (λ w. ⊎_elim (λ e. absurd (cc (e, w.stays))) (λ e. absurd (cc (e, w.stays))) t)
       (λ w. ⊎_elim (λ e. applied_now h m w e) (λ e. applied_before tells h m w e) t)
-      (away_or_here g number q.writes a h)
+      (away_or_here allowed number q.writes a h)
 
   -- ---- causes
 
-  carried_here : (h : Held) → Mem h c.held → (w : IsHere g number q.writes a h) → CarriedAt new (write_of h) number w.place (with_answer a q)
+  carried_here : (h : Held) → Mem h c.held → (w : IsHere allowed number q.writes a h) → CarriedAt new (write_of h) number w.place (with_answer a q)
   carried_here h m w = record { write = write_of h; sent = new_here; stands = its_place h m w; same = same_write-self (write_of h) }
 
-  answered_here : (h : Held) → Mem h c.held → (w : IsHere g number q.writes a h) (o : Outcome) → HasEntry q.writes w.place a o → IsAnswered later (write_of h) o
+  answered_here : (h : Held) → Mem h c.held → (w : IsHere allowed number q.writes a h) (o : Outcome) → HasEntry q.writes w.place a o → IsAnswered later (write_of h) o
   answered_here h m w o e = record {
     number = number;
     place = w.place;
@@ -287,7 +291,7 @@ module _ (g : Config) (past : Past) (c : Core) (f : CoreFacts g past c) (number 
     ran = entry_run h w o e;
   }
 
-  new_cause : (h : Held) → Mem h c.held → (w : IsHere g number q.writes a h) → (e : Cause) → SaysOf h w.place (Reported e) → IsTrueOf g.max later (write_of h) e
+  new_cause : (h : Held) → Mem h c.held → (w : IsHere allowed number q.writes a h) → (e : Cause) → SaysOf h w.place (Reported e) → IsTrueOf (fewest g) later (write_of h) e
   new_cause h m w (cause.Refused status kind reason) s = record {
     outcome = s.0;
     answered = answered_here h m w s.0 s.1;
@@ -311,7 +315,7 @@ module _ (g : Config) (past : Past) (c : Core) (f : CoreFacts g past c) (number 
       }
   new_cause h m w (cause.GaveUp n tried) s = record {
     exactly = same-counts (write_of h) ∙ (f.held h m).sends ∙ sym s.0;
-    enough = let x = (f.held h m).attempts in let y = s.1 in let e = tries-stay_small (write_of h) s.3 in omega (arith, x, y, e);
+    enough = let x = (f.held h m).attempts in let y = s.1 in let e = tries-stay_small (write_of h) s.3 in let l = fewest-least g old h.version in omega (arith, x, y, e, l);
     each = others_retried h m w s.2;
   }
   new_cause h m w cause.Spent s = s
@@ -358,18 +362,18 @@ module _ (g : Config) (past : Past) (c : Core) (f : CoreFacts g past c) (number 
   -- ---- all together
 
   abbrev held_after : List Held
-  held_after = still_held g number q.writes a c.held
+  held_after = still_held allowed number q.writes a c.held
 
-  kept_of : (k : Held) → Mem k (still_held g number q.writes a c.held) → (h : Held) × Mem h c.held × StaysAs (turn g number q.writes a h) h k × (k.version ≡ h.version)
+  kept_of : (k : Held) → Mem k (still_held allowed number q.writes a c.held) → (h : Held) × Mem h c.held × StaysAs (turn allowed number q.writes a h) h k × (k.version ≡ h.version)
   kept_of k m =
-      let h = kept-from g number q.writes a c.held k m in
-      (h.0, h.1, h.2, kept_version (turn g number q.writes a h.0) h.0 k h.2)
+      let h = kept-from allowed number q.writes a c.held k m in
+      (h.0, h.1, h.2, kept_version (turn allowed number q.writes a h.0) h.0 k h.2)
 
   -- what stays held is not reported
   not_reported : (t : Fate) (h k : Held) (e : Cause) → StaysAs t h k → t ≡ Reported e → ⊥
   not_reported t h k e s r = ⊎_elim {C = ⊥} (λ y. let z = y.0 in cc (z, r)) (λ s. ⊎_elim {C = ⊥} (λ y. let z = y.0 in cc (z, r)) (λ y. let z = y.1 in cc (z, r)) s) s
 
-  report-stays : (r : Report) → ReportFact g c.taken c.held c.outside r → ReportFact g c.taken (still_held g number q.writes a c.held) later r
+  report-stays : (r : Report) → ReportFact g c.taken c.held c.outside r → ReportFact g c.taken (still_held allowed number q.writes a c.held) later r
   report-stays r x = ⊎_elim
       (λ s. inl s)
       (λ s. inr (record {
@@ -379,11 +383,11 @@ module _ (g : Config) (past : Past) (c : Core) (f : CoreFacts g past c) (number 
         version = s.version;
         dealt = s.dealt;
         settled = λ k m e. let h = kept_of k m in s.settled h.0 h.1 (sym h.3 ∙ e);
-        cause = cause-stays g.max (write_for s.op s.version) r.cause s.cause;
+        cause = cause-stays (fewest g) (write_for s.op s.version) r.cause s.cause;
       }))
       x
 
-  new_report : (h : Held) → Mem h c.held → (e : Cause) → turn g number q.writes a h ≡ Reported e → ReportFact g c.taken (still_held g number q.writes a c.held) later (report_on h.op e)
+  new_report : (h : Held) → Mem h c.held → (e : Cause) → turn allowed number q.writes a h ≡ Reported e → ReportFact g c.taken (still_held allowed number q.writes a c.held) later (report_on h.op e)
   new_report h m e t = ⊎_elim
       (λ w. absurd (cc (t, w.stays)))
       (λ w. inr (record {
@@ -395,11 +399,11 @@ module _ (g : Config) (past : Past) (c : Core) (f : CoreFacts g past c) (number 
         settled = λ k mk v.
             let j = kept_of k mk in
             let same = f.alone j.0 h j.1 m (sym j.3 ∙ v) in
-            let tj = ap (turn g number q.writes a) same ∙ t in
-            not_reported (turn g number q.writes a j.0) j.0 k e j.2 tj;
+            let tj = ap (turn allowed number q.writes a) same ∙ t in
+            not_reported (turn allowed number q.writes a j.0) j.0 k e j.2 tj;
         cause = new_cause h m w e (says h w (Reported e) t);
       }))
-      (away_or_here g number q.writes a h)
+      (away_or_here allowed number q.writes a h)
 
   run-stays : (r : Ran) → RunFact past.versions requests c.outside.stored c.outside.applied r → RunFact past.versions new c.outside.stored c.outside.applied r
   run-stays r x = ⊎_elim
@@ -421,39 +425,39 @@ module _ (g : Config) (past : Past) (c : Core) (f : CoreFacts g past c) (number 
   index-stays k h = record { sent = λ w m. sent-stays w (h.sent w m); document = h.document; rising = h.rising; above = h.above; from = h.from }
 
   abbrev settled_core : Core
-  settled_core = record { taken = c.taken; held = still_held g number q.writes a c.held; reports = c.reports ++ reports_from g number q.writes a c.held; applied = c.applied + how_many is_applied_fate g number q.writes a c.held; already = c.already + how_many is_already_fate g number q.writes a c.held; outside = later }
+  settled_core = record { taken = c.taken; held = still_held allowed number q.writes a c.held; reports = c.reports ++ reports_from allowed number q.writes a c.held; applied = c.applied + how_many is_applied_fate allowed number q.writes a c.held; already = c.already + how_many is_already_fate allowed number q.writes a c.held; outside = later }
 
-  held_kept : (k : Held) → Mem k (still_held g number q.writes a c.held) → HeldFact g c.taken new k
+  held_kept : (k : Held) → Mem k (still_held allowed number q.writes a c.held) → HeldFact g c.taken new k
   held_kept k m =
-      let h = kept-from g number q.writes a c.held k m in
+      let h = kept-from allowed number q.writes a c.held k m in
       ⊎_elim
       (λ y. ⊎_elim
       (λ w. subst (λ z. HeldFact g c.taken new z) (sym y.1) (held-stays h.0 h.1 w))
       (λ w. absurd (answered (says h.0 w Flies y.0)))
-      (away_or_here g number q.writes a h.0))
+      (away_or_here allowed number q.writes a h.0))
       (λ s. ⊎_elim
       (λ y. ⊎_elim
       (λ w. absurd (cc (y.0, w.stays)))
       (λ w. subst (λ z. HeldFact g c.taken new z) (sym y.1) (held-landed h.0 h.1 w y.0))
-      (away_or_here g number q.writes a h.0))
+      (away_or_here allowed number q.writes a h.0))
       (λ y. ⊎_elim
       (λ w. absurd (cc (y.1, w.stays)))
       (λ w. subst (λ z. HeldFact g c.taken new z) (sym y.2) (held-halved h.0 h.1 w y.0 y.1))
-      (away_or_here g number q.writes a h.0))
+      (away_or_here allowed number q.writes a h.0))
       s)
       h.2
 
-  alone_kept : (k l : Held) → Mem k (still_held g number q.writes a c.held) → Mem l (still_held g number q.writes a c.held) → k.version ≡ l.version → k ≡ l
+  alone_kept : (k l : Held) → Mem k (still_held allowed number q.writes a c.held) → Mem l (still_held allowed number q.writes a c.held) → k.version ≡ l.version → k ≡ l
   unfolding kept_of
   alone_kept k l mk ml e =
-      let h = kept-from g number q.writes a c.held k mk in
-      let j = kept-from g number q.writes a c.held l ml in
+      let h = kept-from allowed number q.writes a c.held k mk in
+      let j = kept-from allowed number q.writes a c.held l ml in
       let hk = kept_of k mk in
       let hl = kept_of l ml in
       let vh : k.version ≡ h.0.version = hk.3 in
       let vj : l.version ≡ j.0.version = hl.3 in
       let same : h.0 ≡ j.0 = f.alone h.0 j.0 h.1 j.1 (sym vh ∙ e ∙ vj) in
-      kept_is (turn g number q.writes a h.0) h.0 k h.2 ∙ ap (λ (z : Held). kept_as (turn g number q.writes a z) z) same ∙ sym (kept_is (turn g number q.writes a j.0) j.0 l j.2)
+      kept_is (turn allowed number q.writes a h.0) h.0 k h.2 ∙ ap (λ (z : Held). kept_as (turn allowed number q.writes a z) z) same ∙ sym (kept_is (turn allowed number q.writes a j.0) j.0 l j.2)
 
   somewhere : TellsOwn g past c.outside.runs → (place : ℕ) (o : Op) → slice_get c.taken place ≡ Some o → IsSomewhere g c o place → IsSomewhere g settled_core o place
   somewhere tells place o s x = ⊎_elim
@@ -465,12 +469,12 @@ module _ (g : Config) (past : Past) (c : Core) (f : CoreFacts g past c) (number 
       (λ y. inl (record { held_op = y.0; is_in = y.1; version = y.2 ∙ h.version }))
       (λ z. ⊎_elim
       (λ y. inr (inl (record { write = write_of h.held_op; is_in = subst (λ p. Mem (write_of h.held_op) (c.outside.applied (document_of p.key))) same (ended tells h.held_op h.is_in y); version = h.version })))
-      (λ y. inr (inr (record { report = report_on h.held_op.op y.0; is_in = Mem-right (report_on h.held_op.op y.0) c.reports (reports_from g number q.writes a c.held) y.1; name = ap (λ p. (report_on p y.0).name) same })))
+      (λ y. inr (inr (record { report = report_on h.held_op.op y.0; is_in = Mem-right (report_on h.held_op.op y.0) c.reports (reports_from allowed number q.writes a c.held) y.1; name = ap (λ p. (report_on p y.0).name) same })))
       z)
-      (goes_to g number q.writes a c.held h.held_op h.is_in))
+      (goes_to allowed number q.writes a c.held h.held_op h.is_in))
       (λ z. ⊎_elim
       (λ y. inr (inl y))
-      (λ p. inr (inr (record { report = p.report; is_in = Mem-left p.report c.reports (reports_from g number q.writes a c.held) p.is_in; name = p.name })))
+      (λ p. inr (inr (record { report = p.report; is_in = Mem-left p.report c.reports (reports_from allowed number q.writes a c.held) p.is_in; name = p.name })))
       z)
       x
 
@@ -479,24 +483,24 @@ module _ (g : Config) (past : Past) (c : Core) (f : CoreFacts g past c) (number 
     past_below = f.past_below;
     held = held_kept;
     alone = alone_kept;
-    in_rise = rising-settled g number q.writes a c.held f.in_rise;
+    in_rise = rising-settled allowed number q.writes a c.held f.in_rise;
     sent = λ w s. f.sent w (sent_answered c.outside.requests number a w s);
     runs = λ r m. run-stays r (f.runs r m);
     index = λ k. index-stays k (f.index k);
     reports = λ r m. ⊎_elim
         (λ old. report-stays r (f.reports r old))
         (λ y.
-        let h = reported-from g number q.writes a c.held r y in
-        subst (λ z. ReportFact g c.taken (still_held g number q.writes a c.held) later z) (sym h.2.2) (new_report h.0 h.1 h.2.0 h.2.1))
-        (Mem-cases r c.reports (reports_from g number q.writes a c.held) m);
+        let h = reported-from allowed number q.writes a c.held r y in
+        subst (λ z. ReportFact g c.taken (still_held allowed number q.writes a c.held) later z) (sym h.2.2) (new_report h.0 h.1 h.2.0 h.2.1))
+        (Mem-cases r c.reports (reports_from allowed number q.writes a c.held) m);
     apart = λ n.
-        let e = count-append (is_report_as n) c.reports (reports_from g number q.writes a c.held) in
-        let s = count-settled g number q.writes a n c.held in
+        let e = count-append (is_report_as n) c.reports (reports_from allowed number q.writes a c.held) in
+        let s = count-settled allowed number q.writes a n c.held in
         let b = f.apart n in omega arith;
     totals =
         let t = f.totals in
-        let e = totals-settled g number q.writes a c.held in
-        let r = length-append c.reports (reports_from g number q.writes a c.held) in
+        let e = totals-settled allowed number q.writes a c.held in
+        let r = length-append c.reports (reports_from allowed number q.writes a c.held) in
         omega (arith, t, r, e);
     nothing_lost = λ tells place o s. somewhere tells place o s (f.nothing_lost tells place o s);
   }
@@ -504,14 +508,14 @@ module _ (g : Config) (past : Past) (c : Core) (f : CoreFacts g past c) (number 
 pub no_unanswered : (runs : List Ran) (number : ℕ) (ws : List Write) (a : Answer) → IsHonest runs number ws a → a ≡ Unanswered → ⊥
 no_unanswered runs number ws a h e = subst (λ b. IsHonest runs number ws b) e h
 
-pub answer_keeps : (g : Config) (past : Past) (c : Core) (f : CoreFacts g past c) (number : ℕ) (a : Answer) → MayAnswer c.outside number a → CoreFacts g past (settle g number a c)
-answer_keeps g past c f number a may =
+pub answer_keeps : (g : Config) (past : Past) (c : Core) (f : CoreFacts g past c) (number : ℕ) (a : Answer) (old : ℕ → Bool) → MayAnswer c.outside number a → CoreFacts g past (settle g number a old c)
+answer_keeps g past c f number a old may =
     subst (λ p. CoreFacts g past (record {
       taken = c.taken;
-      held = still_held g number (writes_or p) a c.held;
-      reports = c.reports ++ reports_from g number (writes_or p) a c.held;
-      applied = c.applied + how_many is_applied_fate g number (writes_or p) a c.held;
-      already = c.already + how_many is_already_fate g number (writes_or p) a c.held;
+      held = still_held (tries_for g old) number (writes_or p) a c.held;
+      reports = c.reports ++ reports_from (tries_for g old) number (writes_or p) a c.held;
+      applied = c.applied + how_many is_applied_fate (tries_for g old) number (writes_or p) a c.held;
+      already = c.already + how_many is_already_fate (tries_for g old) number (writes_or p) a c.held;
       outside = record { requests = update number (with_answer a) c.outside.requests; runs = c.outside.runs; stored = c.outside.stored; before = c.outside.before; applied = c.outside.applied };
     })) (sym may.sent)
-    (settled_keeps g past c f number may.request may.sent may.open_yet a (no_unanswered c.outside.runs number may.request.writes a may.honest) may.honest)
+    (settled_keeps g past c f number may.request may.sent may.open_yet a (no_unanswered c.outside.runs number may.request.writes a may.honest) may.honest old)

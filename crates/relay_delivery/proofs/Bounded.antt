@@ -9,12 +9,12 @@ use Rattle.relay_results.specs.Outside.{Answer, Request, Outside, MayAnswer, aft
 use Rattle.relay_results.specs.Outside as outside
 use Rattle.relay_results.proofs.Steps.{step_runs_item}
 use Rattle.relay_results.specs.Fates.{Fate, Flies, Applied, Already, Retried, Halved, Reported}
-use Rattle.relay_delivery.specs.Machine.{Config, Core, Held, Place, Step, Takes, Sends, Runs, Answers, write_of, held_at, held_if, place_of, launched_at, after_launch, kept_one, still_held, writes_or, step, steps_of, MaySend, MayStep, AllMayStep, CameAbout}
+use Rattle.relay_delivery.specs.Machine.{Config, tries_for, Core, Held, Place, Step, Takes, Sends, Runs, Answers, write_of, held_at, held_if, place_of, launched_at, after_launch, kept_one, still_held, writes_or, step, steps_of, MaySend, MayStep, AllMayStep, CameAbout}
 use Rattle.relay_delivery.specs.Bound.{IsDraining, AllDraining, sent_of, tries_left, halvings, WithinTriesLeft, FewRequests}
 use Rattle.relay_results.proofs.Lists.{Mem-cases, Mem-one, Mem-map, length-update, at-left, at-last, at-Mem, at-update_same, at-update_other, equal_or_not, some_same}
 use Rattle.relay_delivery.proofs.Dealt.{with_answer}
 use Rattle.relay_delivery.proofs.Send.{no_place, launched_here}
-use Rattle.relay_delivery.proofs.Fates.{turn, kept-from, retried_left, away_or_here}
+use Rattle.relay_delivery.proofs.Fates.{tries-most, turn, kept-from, retried_left, away_or_here}
 use Rattle.relay_delivery.proofs.Halving.{halvings-half, halvings_few, halvings-below}
 use Rattle.relay_delivery.proofs.Facts.{CoreFacts}
 use Rattle.relay_delivery.proofs.Keeps.{fresh_none, none_past, fresh_facts, facts_of, step_keeps}
@@ -122,13 +122,16 @@ left_one max (Halved cap) h rest f = let l = f cap refl in omega (arith, l)
 left_one max (Reported c) h rest f = omega arith
 
 -- the answered request
-module _ (g : Config) (requests : List Request) (number : ℕ) (q : Request) (stands : slice_get requests number ≡ Some q) (a : Answer) where
+module _ (g : Config) (old : ℕ → Bool) (requests : List Request) (number : ℕ) (q : Request) (stands : slice_get requests number ≡ Some q) (a : Answer) where
+  abbrev allowed : ℕ → ℕ
+  allowed = tries_for g old
+
   -- what is halved flew in it, which kept its cap
-  cap_falls : (h : Held) → HasTries g requests h → (cap : ℕ) → turn g number q.writes a h ≡ Halved cap → halvings cap + 1 ≤ halvings h.cap
+  cap_falls : (h : Held) → HasTries g requests h → (cap : ℕ) → turn allowed number q.writes a h ≡ Halved cap → halvings cap + 1 ≤ halvings h.cap
   cap_falls h f cap t = ⊎_elim {C = halvings cap + 1 ≤ halvings h.cap}
       (λ w. absurd (cc (t, w.stays)))
       (λ w.
-      let s = says_as (record { version = h.version; sends = h.sends; attempts = h.attempts; max = g.max }) q.writes w.place (kind_of h.op.action) a (Halved cap) (sym w.fate_is ∙ t) in
+      let s = says_as (record { version = h.version; sends = h.sends; attempts = h.attempts; max = allowed h.version }) q.writes w.place (kind_of h.op.action) a (Halved cap) (sym w.fate_is ∙ t) in
       let y = f.flying (record { request = number; place = w.place }) w.flies in
       let same : y.request ≡ q = some_same y.request q (sym y.sent ∙ stands) in
       let n = ap (λ (z : Request). length z.writes) same in
@@ -136,13 +139,13 @@ module _ (g : Config) (requests : List Request) (number : ℕ) (q : Request) (st
       let le = y.within (omega (arith, some, n)) in
       let l = halvings-half (length q.writes) h.cap some (omega (arith, le, n)) in
       subst (λ x. halvings x + 1 ≤ halvings h.cap) (sym s.2) l)
-      (away_or_here g number q.writes a h)
+      (away_or_here allowed number q.writes a h)
 
-  pub left-kept : (hs : List Held) → HaveTries g requests hs → tries_left g.max (still_held g number q.writes a hs) ≤ tries_left g.max hs
+  pub left-kept : (hs : List Held) → HaveTries g requests hs → tries_left g.max (still_held allowed number q.writes a hs) ≤ tries_left g.max hs
   left-kept [] f = omega arith
   left-kept (h ∷ hs) f =
       let r = left-kept hs (λ k m. f k (inr m)) in
-      let l = left_one g.max (turn g number q.writes a h) h (still_held g number q.writes a hs) (cap_falls h (f h (inl refl))) in omega (arith, r, l)
+      let l = left_one g.max (turn allowed number q.writes a h) h (still_held allowed number q.writes a hs) (cap_falls h (f h (inl refl))) in omega (arith, r, l)
 
   -- what flies in another request is not touched
   flying_on : (h : Held) (p : Place) → FliesWithin requests h p → FliesWithin (update number (with_answer a) requests) h p
@@ -151,14 +154,14 @@ module _ (g : Config) (requests : List Request) (number : ℕ) (q : Request) (st
       (λ ne. record { request = y.request; sent = at-update_other number (with_answer a) requests p.request ne ∙ y.sent; within = y.within })
       (equal_or_not p.request number)
 
-  kept_tries : 0 < g.max → (hs : List Held) → HaveTries g requests hs → HaveTries g (update number (with_answer a) requests) (still_held g number q.writes a hs)
+  kept_tries : 0 < g.max → (hs : List Held) → HaveTries g requests hs → HaveTries g (update number (with_answer a) requests) (still_held allowed number q.writes a hs)
   kept_tries some hs f k m =
-      let h = kept-from g number q.writes a hs k m in
+      let h = kept-from allowed number q.writes a hs k m in
       let y = f h.0 h.1 in
       ⊎_elim
       (λ z. subst (λ (x : Held). HasTries g (update number (with_answer a) requests) x) (sym z.1) (record { waiting = y.waiting; most = y.most; fallen = y.fallen; flying = λ p e. flying_on h.0 p (y.flying p e) }))
       (λ s. ⊎_elim
-      (λ z. subst (λ (x : Held). HasTries g (update number (with_answer a) requests) x) (sym z.1) (record { waiting = λ _. retried_left g number q.writes a h.0 z.0; most = y.most; fallen = y.fallen; flying = λ p e. absurd (cc) }))
+      (λ z. subst (λ (x : Held). HasTries g (update number (with_answer a) requests) x) (sym z.1) (record { waiting = λ _. (let lt = retried_left allowed number q.writes a h.0 z.0 in let most = tries-most g old h.0.version in omega (arith, lt, most)); most = y.most; fallen = y.fallen; flying = λ p e. absurd (cc) }))
       (λ z.
       let le = cap_falls h.0 y z.0 z.1 in
       let c = y.fallen in
@@ -188,9 +191,9 @@ step_tries g c facts (Sends chosen) may some f h m =
 step_tries g c facts (Runs r) may some f h m =
     let e = (step_runs_item c.outside (after (outside.Runs r) c.outside) (record { run = r; may = may; reached = refl })).requests in
     subst (λ qs. HasTries g qs h) (sym e) (f h m)
-step_tries g c facts (Answers number a) may some f h m =
+step_tries g c facts (Answers number a old) may some f h m =
     let e = answered_request c number a may in
-    kept_tries g c.outside.requests number may.request may.sent a some c.held f h (subst (λ ws. Mem h (still_held g number ws a c.held)) e m)
+    kept_tries g old c.outside.requests number may.request may.sent a some c.held f h (subst (λ ws. Mem h (still_held (tries_for g old) number ws a c.held)) e m)
 
 steps_tries : (g : Config) (ss : List Step) (c : Core) → CoreFacts g (none_past g) c → AllMayStep g ss c → 0 < g.max → HasAll g c → HasAll g (steps_of g ss c)
 steps_tries g [] c facts may some f = f
@@ -210,10 +213,10 @@ one_step g c (Sends chosen) f may d = one_send g c chosen f may d
 one_step g c (Runs r) f may d =
     let e = (step_runs_item c.outside (after (outside.Runs r) c.outside) (record { run = r; may = may; reached = refl })).requests in
     let n = ap length e in omega (arith, n)
-one_step g c (Answers number a) f may d =
+one_step g c (Answers number a old) f may d =
     let n = length-update number (with_answer a) c.outside.requests in
-    let e = ap (λ ws. tries_left g.max (still_held g number ws a c.held)) (answered_request c number a may) in
-    let l = left-kept g c.outside.requests number may.request may.sent a c.held f in omega (arith, n, e, l)
+    let e = ap (λ ws. tries_left g.max (still_held (tries_for g old) number ws a c.held)) (answered_request c number a may) in
+    let l = left-kept g old c.outside.requests number may.request may.sent a c.held f in omega (arith, n, e, l)
 
 drained : (g : Config) (ss : List Step) (c : Core) → CoreFacts g (none_past g) c → 0 < g.max → HasAll g c → AllMayStep g ss c → AllDraining ss → sent_of (steps_of g ss c) + tries_left g.max (steps_of g ss c).held ≤ sent_of c + tries_left g.max c.held
 drained g [] c facts some f may d = omega arith

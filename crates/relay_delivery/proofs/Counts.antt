@@ -18,7 +18,7 @@ use Rattle.relay_results.specs.Fates.{Fate, Flies, Applied, Already, Retried, Ha
 use Rattle.relay_results.proofs.Steps.{step_runs_item}
 use Rattle.relay_results.proofs.Lists.{none_some, true_or_false, equal, equal_test, some_same, at-Mem, at-cases, at-within, at-map, map-at, at-update-cases, Mem-left, Mem-right, Mem-cases, Mem-map, map-Mem, count-push, distinct_places, none_at, none_in}
 use Rattle.relay_delivery.specs.Causes.{carries}
-use Rattle.relay_delivery.specs.Machine.{Config, Core, Held, Place, Step, Takes, Sends, Runs, Answers, write_of, held_if, place_of, launched_at, after_launch, kept_one, still_held, writes_or, how_many, is_applied_fate, is_already_fate, settle, step, steps_of, MaySend, MayStep, AllMayStep, IsFresh}
+use Rattle.relay_delivery.specs.Machine.{Config, tries_for, Core, Held, Place, Step, Takes, Sends, Runs, Answers, write_of, held_if, place_of, launched_at, after_launch, kept_one, still_held, writes_or, how_many, is_applied_fate, is_already_fate, settle, step, steps_of, MaySend, MayStep, AllMayStep, IsFresh}
 use Rattle.relay_delivery.specs.Counts.{PlaceTest, says_applied, says_already, entries_that, places_that, places_from, applied_answers, settled_already, CountsAlways, CountsWhereItFits}
 use Rattle.relay_delivery.proofs.Facts.{AreRising, CoreFacts}
 use Rattle.relay_delivery.proofs.Dealt.{with_answer, carries_its}
@@ -267,33 +267,33 @@ from_start : (number p : ℕ) → flies_from number 0 (Some (record { request = 
 unfolding flies_from
 from_start number p = let a = equal_test number number refl in ap (λ x. x && nat_le 0 p) a ∙ le-leb 0 p (omega arith)
 
-module _ (g : Config) (number : ℕ) (ws : List Write) (a : Answer) (hs : List Held) (test : PlaceTest) (says : Fate → Bool) (is : IsFateOf test says) (sent : List Request) (rising : AreRising hs)
-    (its : (h : Held) → Mem h hs → (w : IsHere g number ws a h) → slice_get ws w.place ≡ Some (write_of h)) (sends : (h : Held) → Mem h hs → IsHere g number ws a h → count (carries (write_of h)) sent ≡ h.sends)
+module _ (allowed : ℕ → ℕ) (number : ℕ) (ws : List Write) (a : Answer) (hs : List Held) (test : PlaceTest) (says : Fate → Bool) (is : IsFateOf test says) (sent : List Request) (rising : AreRising hs)
+    (its : (h : Held) → Mem h hs → (w : IsHere allowed number ws a h) → slice_get ws w.place ≡ Some (write_of h)) (sends : (h : Held) → Mem h hs → IsHere allowed number ws a h → count (carries (write_of h)) sent ≡ h.sends)
     (each : (place : ℕ) (w : Write) → slice_get ws place ≡ Some w → IsAtPlace hs w (record { request = number; place = place })) where
   abbrev tries : Held → Tries
-  tries h = record { version = h.version; sends = h.sends; attempts = h.attempts; max = g.max }
+  tries h = record { version = h.version; sends = h.sends; attempts = h.attempts; max = allowed h.version }
 
-  quiet : ((h : Held) → Mem h hs → IsHere g number ws a h → says (turn g number ws a h) ≡ false) → count (λ (h : Held). says (turn g number ws a h)) hs ≡ 0
-  quiet none = count_none (λ (h : Held). says (turn g number ws a h)) hs (λ h m. ⊎_elim {C = says (turn g number ws a h) ≡ false} (λ w. ap says w.stays ∙ is.flies) (λ w. none h m w) (away_or_here g number ws a h))
+  quiet : ((h : Held) → Mem h hs → IsHere allowed number ws a h → says (turn allowed number ws a h) ≡ false) → count (λ (h : Held). says (turn allowed number ws a h)) hs ≡ 0
+  quiet none = count_none (λ (h : Held). says (turn allowed number ws a h)) hs (λ h m. ⊎_elim {C = says (turn allowed number ws a h) ≡ false} (λ w. ap says w.stays ∙ is.flies) (λ w. none h m w) (away_or_here allowed number ws a h))
 
   module _ (os : List Outcome) (ea : a ≡ Items os) (matching : matches os ws ≡ true) where
-    here_says : (h : Held) (w : IsHere g number ws a h) (found : Option Outcome) → slice_get os w.place ≡ found → says (turn g number ws a h) ≡ says (fate_of_entry (tries h) (kind_of h.op.action) found no_entry)
+    here_says : (h : Held) (w : IsHere allowed number ws a h) (found : Option Outcome) → slice_get os w.place ≡ found → says (turn allowed number ws a h) ≡ says (fate_of_entry (tries h) (kind_of h.op.action) found no_entry)
     here_says h w found e = ap says (w.fate_is ∙ ap (fate (tries h) ws w.place (kind_of h.op.action)) ea ∙ ap (λ b. if b then fate_of_entry (tries h) (kind_of h.op.action) (slice_get os w.place) no_entry else tried_again (tries h) no_entry) matching ∙ ap (λ f. fate_of_entry (tries h) (kind_of h.op.action) f no_entry) e)
 
     abbrev later : ℕ → Held → Bool
-    later k h = flies_from number k h.flies && says (turn g number ws a h)
+    later k h = flies_from number k h.flies && says (turn allowed number ws a h)
 
     abbrev here : ℕ → Held → Bool
-    here k h = flies_at number k h.flies && says (turn g number ws a h)
+    here k h = flies_at number k h.flies && says (turn allowed number ws a h)
 
-    past : (k : ℕ) → ((h : Held) → Mem h hs → (w : IsHere g number ws a h) → k ≤ w.place → says (turn g number ws a h) ≡ false) → count (later k) hs ≡ 0
+    past : (k : ℕ) → ((h : Held) → Mem h hs → (w : IsHere allowed number ws a h) → k ≤ w.place → says (turn allowed number ws a h) ≡ false) → count (later k) hs ≡ 0
     past k none = count_none (later k) hs (λ h m. ⊎_elim {C = later k h ≡ false}
         (λ w. and_false (flies_from number k h.flies) _ (ap says w.stays ∙ is.flies))
         (λ w. ⊎_elim {C = later k h ≡ false}
         (λ t. and_false (flies_from number k h.flies) _ (none h m w (from_place number k w.place h.flies (and_first (flies_from number k h.flies) _ t) w.flies)))
         (λ f. f)
         (true_or_false (later k h)))
-        (away_or_here g number ws a h))
+        (away_or_here allowed number ws a h))
 
     -- the operation that flies at the place
     one_here : (k : ℕ) (v : Write) (o : Outcome) → slice_get ws k ≡ Some v → slice_get os k ≡ Some o → count (here k) hs ≡ one_if (test (count (carries v) sent) v o)
@@ -307,17 +307,17 @@ module _ (g : Config) (number : ℕ) (ws : List Write) (a : Answer) (hs : List H
         let p : w.place ≡ k = ap (λ (z : Place). z.place) (some_same (record { request = number; place = w.place }) (record { request = number; place = k }) (sym w.flies ∙ fl)) in
         let e : write_of j ≡ v = some_same (write_of j) v (sym (its j mj w) ∙ ap (slice_get ws) p ∙ sv) in
         ap (λ (z : Write). z.version) (e ∙ sym y.write))
-        (away_or_here g number ws a j)) in
+        (away_or_here allowed number ws a j)) in
         let at : flies_at number k y.held_op.flies ≡ true = ap (flies_at number k) y.flies ∙ at_itself number k in
-        let value : here k y.held_op ≡ test (count (carries v) sent) v o = ap (λ b. b && says (turn g number ws a y.held_op)) at
-        ∙ ⊎_elim {C = says (turn g number ws a y.held_op) ≡ test (count (carries v) sent) v o}
+        let value : here k y.held_op ≡ test (count (carries v) sent) v o = ap (λ b. b && says (turn allowed number ws a y.held_op)) at
+        ∙ ⊎_elim {C = says (turn allowed number ws a y.held_op) ≡ test (count (carries v) sent) v o}
         (λ w. absurd (w.elsewhere k y.flies))
         (λ w.
         let p : w.place ≡ k = ap (λ (z : Place). z.place) (some_same (record { request = number; place = w.place }) (record { request = number; place = k }) (sym w.flies ∙ y.flies)) in
         here_says y.held_op w (Some o) (ap (slice_get os) p ∙ so) ∙ is.item (tries y.held_op) (write_of y.held_op) o refl
         ∙ ap (λ n. test n (write_of y.held_op) o) (sym (sends y.held_op y.is_in w))
         ∙ ap (λ z. test (count (carries z) sent) z o) y.write)
-        (away_or_here g number ws a y.held_op) in
+        (away_or_here allowed number ws a y.held_op) in
         only ∙ ap one_if value
 
     tail : (k : ℕ) (vs : List Write) (ps : List Outcome) → ((i : ℕ) → slice_get ws (k + i) ≡ slice_get vs i) → ((i : ℕ) → slice_get os (k + i) ≡ slice_get ps i) → count (later k) hs ≡ entries_that test sent vs ps
@@ -331,16 +331,16 @@ module _ (g : Config) (number : ℕ) (ws : List Write) (a : Answer) (hs : List H
         let z : k ≡ k + 0 = omega arith in
         let head = one_here k v o (ap (slice_get ws) z ∙ ev 0) (ap (slice_get os) z ∙ ep 0) in
         let rest = tail (suc k) vs ps (λ i. let e : suc k + i ≡ k + suc i = omega arith in ap (slice_get ws) e ∙ ev (suc i)) (λ i. let e : suc k + i ≡ k + suc i = omega arith in ap (slice_get os) e ∙ ep (suc i)) in
-        let split = count_split (later k) (here k) (later (suc k)) hs (λ h. split_at number k h.flies (says (turn g number ws a h))) in
+        let split = count_split (later k) (here k) (later (suc k)) hs (λ h. split_at number k h.flies (says (turn allowed number ws a h))) in
         omega (arith, head, rest, split)
 
-    whole : count (λ (h : Held). says (turn g number ws a h)) hs ≡ entries_that test sent ws os
-    whole = count_alike (λ (h : Held). says (turn g number ws a h)) (later 0) hs (λ h m. ⊎_elim {C = says (turn g number ws a h) ≡ later 0 h}
+    whole : count (λ (h : Held). says (turn allowed number ws a h)) hs ≡ entries_that test sent ws os
+    whole = count_alike (λ (h : Held). says (turn allowed number ws a h)) (later 0) hs (λ h m. ⊎_elim {C = says (turn allowed number ws a h) ≡ later 0 h}
         (λ w. let n = ap says w.stays ∙ is.flies in n ∙ sym (and_false (flies_from number 0 h.flies) _ n))
-        (λ w. sym (ap (λ b. b && says (turn g number ws a h)) (ap (flies_from number 0) w.flies ∙ from_start number w.place)))
-        (away_or_here g number ws a h)) ∙ tail 0 ws os (λ i. let e : 0 + i ≡ i = omega arith in ap (slice_get ws) e) (λ i. let e : 0 + i ≡ i = omega arith in ap (slice_get os) e)
+        (λ w. sym (ap (λ b. b && says (turn allowed number ws a h)) (ap (flies_from number 0) w.flies ∙ from_start number w.place)))
+        (away_or_here allowed number ws a h)) ∙ tail 0 ws os (λ i. let e : 0 + i ≡ i = omega arith in ap (slice_get ws) e) (λ i. let e : 0 + i ≡ i = omega arith in ap (slice_get os) e)
 
-  items_by : (os : List Outcome) (b : Bool) → a ≡ Items os → matches os ws ≡ b → count (λ (h : Held). says (turn g number ws a h)) hs ≡ (if b then entries_that test sent ws os else 0)
+  items_by : (os : List Outcome) (b : Bool) → a ≡ Items os → matches os ws ≡ b → count (λ (h : Held). says (turn allowed number ws a h)) hs ≡ (if b then entries_that test sent ws os else 0)
   items_by os true ea m = whole os ea m
   items_by os false ea m = quiet (λ h mh w. ap says (w.fate_is ∙ ap (fate (tries h) ws w.place (kind_of h.op.action)) ea ∙ ap (λ b. if b then fate_of_entry (tries h) (kind_of h.op.action) (slice_get os w.place) no_entry else tried_again (tries h) no_entry) m) ∙ again_none test says is (tries h) no_entry)
 
@@ -349,13 +349,13 @@ module _ (g : Config) (number : ℕ) (ws : List Write) (a : Answer) (hs : List H
   whole_none t s n reason false true = again_none test says is t (last.Whole s)
   whole_none t s n reason false false = is.reported (cause.Request s reason)
 
-  tally_of : (b : Answer) → a ≡ b → count (λ (h : Held). says (turn g number ws a h)) hs ≡ places_that test sent ws b
+  tally_of : (b : Answer) → a ≡ b → count (λ (h : Held). says (turn allowed number ws a h)) hs ≡ places_that test sent ws b
   tally_of Unanswered e = quiet (λ h m w. ap says (w.fate_is ∙ ap (fate (tries h) ws w.place (kind_of h.op.action)) e) ∙ is.flies)
   tally_of (Items os) e = items_by os (matches os ws) e refl
   tally_of (Whole s given) e = quiet (λ h m w. ap says (w.fate_is ∙ ap (fate (tries h) ws w.place (kind_of h.op.action)) e) ∙ whole_none (tries h) s (length ws / 2) (reason_at w.place given) (is_halved (length ws) s) (is_retried_whole s))
   tally_of (Lost why) e = quiet (λ h m w. ap says (w.fate_is ∙ ap (fate (tries h) ws w.place (kind_of h.op.action)) e) ∙ again_none test says is (tries h) (last.Lost why))
 
-  pub tally : how_many says g number ws a hs ≡ places_that test sent ws a
+  pub tally : how_many says allowed number ws a hs ≡ places_that test sent ws a
   tally = tally_of a refl
 
 -- ---- answer
@@ -368,35 +368,38 @@ stays_head Retried h e = absurd (cc)
 stays_head (Halved cap) h e = absurd (cc)
 stays_head (Reported cause) h e = absurd (cc)
 
-pub stays_in : (g : Config) (number : ℕ) (ws : List Write) (a : Answer) (hs : List Held) (h : Held) → Mem h hs → turn g number ws a h ≡ Flies → Mem h (still_held g number ws a hs)
-stays_in g number ws a [] h m e = elim m [ ]
-stays_in g number ws a (x ∷ hs) h m e = ⊎_elim {C = Mem h (still_held g number ws a (x ∷ hs))}
-    (λ s. Mem-left h (kept_one (turn g number ws a x) x) (still_held g number ws a hs) (subst (λ z. Mem z (kept_one (turn g number ws a x) x)) (sym s) (stays_head (turn g number ws a x) x (ap (turn g number ws a) (sym s) ∙ e))))
-    (λ l. Mem-right h (kept_one (turn g number ws a x) x) (still_held g number ws a hs) (stays_in g number ws a hs h l e))
+pub stays_in : (allowed : ℕ → ℕ) (number : ℕ) (ws : List Write) (a : Answer) (hs : List Held) (h : Held) → Mem h hs → turn allowed number ws a h ≡ Flies → Mem h (still_held allowed number ws a hs)
+stays_in allowed number ws a [] h m e = elim m [ ]
+stays_in allowed number ws a (x ∷ hs) h m e = ⊎_elim {C = Mem h (still_held allowed number ws a (x ∷ hs))}
+    (λ s. Mem-left h (kept_one (turn allowed number ws a x) x) (still_held allowed number ws a hs) (subst (λ z. Mem z (kept_one (turn allowed number ws a x) x)) (sym s) (stays_head (turn allowed number ws a x) x (ap (turn allowed number ws a) (sym s) ∙ e))))
+    (λ l. Mem-right h (kept_one (turn allowed number ws a x) x) (still_held allowed number ws a hs) (stays_in allowed number ws a hs h l e))
     m
 
-module _ (g : Config) (c : Core) (facts : CoreFacts g (none_past g) c) (k : Counted c.outside.requests c.held c.applied c.already) (number : ℕ) (q : Request) (stands : slice_get c.outside.requests number ≡ Some q) (unanswered : q.answer ≡ Unanswered) (a : Answer) (answered : a ≡ Unanswered → ⊥) where
+module _ (g : Config) (c : Core) (facts : CoreFacts g (none_past g) c) (k : Counted c.outside.requests c.held c.applied c.already) (number : ℕ) (q : Request) (stands : slice_get c.outside.requests number ≡ Some q) (unanswered : q.answer ≡ Unanswered) (a : Answer) (answered : a ≡ Unanswered → ⊥) (old : ℕ → Bool) where
+  abbrev allowed : ℕ → ℕ
+  allowed = tries_for g old
+
   abbrev requests : List Request
   requests = c.outside.requests
 
-  its_write : (h : Held) → Mem h c.held → (w : IsHere g number q.writes a h) → slice_get q.writes w.place ≡ Some (write_of h)
+  its_write : (h : Held) → Mem h c.held → (w : IsHere allowed number q.writes a h) → slice_get q.writes w.place ≡ Some (write_of h)
   its_write h m w =
       let v = (facts.held h m).flying (record { request = number; place = w.place }) w.flies in
       let e : v.request ≡ q = some_same v.request q (sym v.sent ∙ stands) in
       subst (λ (z : Request). slice_get z.writes w.place ≡ Some (write_of h)) e v.stands
 
-  added : (test : PlaceTest) (says : Fate → Bool) → IsFateOf test says → places_from test [] (update number (with_answer a) requests) ≡ places_from test [] requests + how_many says g number q.writes a c.held
+  added : (test : PlaceTest) (says : Fate → Bool) → IsFateOf test says → places_from test [] (update number (with_answer a) requests) ≡ places_from test [] requests + how_many says allowed number q.writes a c.held
   added test says is =
-      let t = tally g number q.writes a c.held test says is (first (suc number) requests) facts.in_rise its_write (λ h m w. k.last_sent h (record { request = number; place = w.place }) m w.flies) (λ place w s. k.each_flies number place q w stands unanswered s) in
+      let t = tally allowed number q.writes a c.held test says is (first (suc number) requests) facts.in_rise its_write (λ h m w. k.last_sent h (record { request = number; place = w.place }) m w.flies) (λ place w s. k.each_flies number place q w stands unanswered s) in
       let f = from-answered test number requests [] q a stands unanswered in
       f ∙ ap (λ n. places_from test [] requests + n) (sym t)
 
-  settled_counted : Counted (update number (with_answer a) requests) (still_held g number q.writes a c.held) (c.applied + how_many is_applied_fate g number q.writes a c.held) (c.already + how_many is_already_fate g number q.writes a c.held)
+  settled_counted : Counted (update number (with_answer a) requests) (still_held allowed number q.writes a c.held) (c.applied + how_many is_applied_fate allowed number q.writes a c.held) (c.already + how_many is_already_fate allowed number q.writes a c.held)
   settled_counted = record {
-    applied_is = ap (λ n. n + how_many is_applied_fate g number q.writes a c.held) k.applied_is ∙ sym (added says_applied is_applied_fate of_applied);
-    already_is = ap (λ n. n + how_many is_already_fate g number q.writes a c.held) k.already_is ∙ sym (added says_already is_already_fate of_already);
+    applied_is = ap (λ n. n + how_many is_applied_fate allowed number q.writes a c.held) k.applied_is ∙ sym (added says_applied is_applied_fate of_applied);
+    already_is = ap (λ n. n + how_many is_already_fate allowed number q.writes a c.held) k.already_is ∙ sym (added says_already is_already_fate of_already);
     last_sent = λ h f m e.
-        let x = kept-from g number q.writes a c.held h m in
+        let x = kept-from allowed number q.writes a c.held h m in
         ⊎_elim {C = count (carries (write_of h)) (first (suc f.request) (update number (with_answer a) requests)) ≡ h.sends}
         (λ y. first_carries (write_of h) (suc f.request) number a requests ∙ subst (λ z. count (carries (write_of z)) (first (suc f.request) requests) ≡ z.sends) (sym y.1) (k.last_sent x.0 f x.1 (ap (λ (z : Held). z.flies) (sym y.1) ∙ e)))
         (λ s. ⊎_elim {C = count (carries (write_of h)) (first (suc f.request) (update number (with_answer a) requests)) ≡ h.sends}
@@ -404,13 +407,13 @@ module _ (g : Config) (c : Core) (facts : CoreFacts g (none_past g) c) (k : Coun
         (λ y. let n = ap (λ (z : Held). z.flies) y.2 in absurd (cc (n, e)))
         s)
         x.2;
-    each_flies = λ m place p w s u at. ⊎_elim {C = IsAtPlace (still_held g number q.writes a c.held) w (record { request = m; place = place })}
+    each_flies = λ m place p w s u at. ⊎_elim {C = IsAtPlace (still_held allowed number q.writes a c.held) w (record { request = m; place = place })}
         (λ l.
         let y = k.each_flies m place p w l.1 u at in
-        ⊎_elim {C = IsAtPlace (still_held g number q.writes a c.held) w (record { request = m; place = place })}
-        (λ z. record { held_op = y.held_op; is_in = stays_in g number q.writes a c.held y.held_op y.is_in z.stays; flies = y.flies; write = y.write })
+        ⊎_elim {C = IsAtPlace (still_held allowed number q.writes a c.held) w (record { request = m; place = place })}
+        (λ z. record { held_op = y.held_op; is_in = stays_in allowed number q.writes a c.held y.held_op y.is_in z.stays; flies = y.flies; write = y.write })
         (λ z. absurd (l.0 (ap (λ (f : Place). f.request) (some_same (record { request = m; place = place }) (record { request = number; place = z.place }) (sym y.flies ∙ z.flies)))))
-        (away_or_here g number q.writes a y.held_op))
+        (away_or_here allowed number q.writes a y.held_op))
         (λ r. absurd (answered (sym (ap (λ (z : Request). z.answer) r.1.2) ∙ u)))
         (at-update-cases number (with_answer a) requests m p s);
   }
@@ -420,16 +423,16 @@ module _ (g : Config) (c : Core) (facts : CoreFacts g (none_past g) c) (k : Coun
 abbrev CountedCore : Core → Type 0
 CountedCore c = Counted c.outside.requests c.held c.applied c.already
 
-answer_counted : (g : Config) (c : Core) (facts : CoreFacts g (none_past g) c) → CountedCore c → (number : ℕ) (a : Answer) → MayAnswer c.outside number a → CountedCore (settle g number a c)
-answer_counted g c facts k number a may =
-    subst (λ p. Counted (update number (with_answer a) c.outside.requests) (still_held g number (writes_or p) a c.held) (c.applied + how_many is_applied_fate g number (writes_or p) a c.held) (c.already + how_many is_already_fate g number (writes_or p) a c.held)) (sym may.sent)
-    (settled_counted g c facts k number may.request may.sent may.open_yet a (no_unanswered c.outside.runs number may.request.writes a may.honest))
+answer_counted : (g : Config) (c : Core) (facts : CoreFacts g (none_past g) c) → CountedCore c → (number : ℕ) (a : Answer) (old : ℕ → Bool) → MayAnswer c.outside number a → CountedCore (settle g number a old c)
+answer_counted g c facts k number a old may =
+    subst (λ p. Counted (update number (with_answer a) c.outside.requests) (still_held (tries_for g old) number (writes_or p) a c.held) (c.applied + how_many is_applied_fate (tries_for g old) number (writes_or p) a c.held) (c.already + how_many is_already_fate (tries_for g old) number (writes_or p) a c.held)) (sym may.sent)
+    (settled_counted g c facts k number may.request may.sent may.open_yet a (no_unanswered c.outside.runs number may.request.writes a may.honest) old)
 
 step_counted : (g : Config) (c : Core) (s : Step) → CoreFacts g (none_past g) c → CountedCore c → MayStep s c → CountedCore (step g s c)
 step_counted g c (Takes o) facts k may = take_counted g c o k
 step_counted g c (Sends chosen) facts k may = send_counted g c facts k chosen may
 step_counted g c (Runs r) facts k may = run_counted g c r may k
-step_counted g c (Answers number a) facts k may = answer_counted g c facts k number a may
+step_counted g c (Answers number a old) facts k may = answer_counted g c facts k number a old may
 
 steps_counted : (g : Config) (ss : List Step) (c : Core) → CoreFacts g (none_past g) c → CountedCore c → AllMayStep g ss c → CountedCore (steps_of g ss c)
 steps_counted g [] c facts k may = k

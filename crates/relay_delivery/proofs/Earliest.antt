@@ -7,7 +7,7 @@ use Rattle.relay_results.specs.Words.{Mem}
 use Rattle.relay_results.specs.Documents.{document_of}
 use Rattle.relay_results.specs.Outside.{Answer}
 use Rattle.relay_results.proofs.Lists.{at-Mem, Mem-cases, Mem-map}
-use Rattle.relay_delivery.specs.Machine.{Config, Core, Held, Place, Step, Takes, Sends, Runs, Answers, held_if, place_of, launched_at, after_launch, still_held, writes_or, step, steps_of, IsEligible, MayStep, AllMayStep}
+use Rattle.relay_delivery.specs.Machine.{Config, tries_for, Core, Held, Place, Step, Takes, Sends, Runs, Answers, held_if, place_of, launched_at, after_launch, still_held, writes_or, step, steps_of, IsEligible, MayStep, AllMayStep}
 use Rattle.relay_delivery.specs.Delivery.{EarliestFlies, OneFlies}
 use Rattle.relay_delivery.proofs.Facts.{CoreFacts}
 use Rattle.relay_delivery.proofs.Dealt.{dealt_before}
@@ -61,12 +61,12 @@ module _ (hs chosen : List Held) (alone : (h j : Held) → Mem h hs → Mem j hs
 
 -- ---- answer
 
-pub answer_first : (g : Config) (number : ℕ) (ws : List Write) (a : Answer) (hs : List Held) → FliesFirst hs → FliesFirst (still_held g number ws a hs)
-answer_first g number ws a hs first h j f mh mj flies doc =
-    let x = kept-from g number ws a hs h mh in
-    let y = kept-from g number ws a hs j mj in
-    let vy = kept_version (turn g number ws a y.0) y.0 j y.2 in
-    let oy = kept_op (turn g number ws a y.0) y.0 j y.2 in
+pub answer_first : (allowed : ℕ → ℕ) (number : ℕ) (ws : List Write) (a : Answer) (hs : List Held) → FliesFirst hs → FliesFirst (still_held allowed number ws a hs)
+answer_first allowed number ws a hs first h j f mh mj flies doc =
+    let x = kept-from allowed number ws a hs h mh in
+    let y = kept-from allowed number ws a hs j mj in
+    let vy = kept_version (turn allowed number ws a y.0) y.0 j y.2 in
+    let oy = kept_op (turn allowed number ws a y.0) y.0 j y.2 in
     ⊎_elim {C = h.version ≤ j.version}
     (λ z.
     let same = z.1 in
@@ -87,7 +87,7 @@ step_first g c (Takes o) facts first may =
     take_first (nat_lt (length c.taken) g.deals) g (length c.taken) o c.held (λ h m. dealt_before g c.taken h.op h.version (facts.held h m).dealt) first
 step_first g c (Sends chosen) facts first may = send_first c.held chosen facts.alone may.eligible (length c.outside.requests) first
 step_first g c (Runs r) facts first may = first
-step_first g c (Answers number a) facts first may = answer_first g number (writes_or (slice_get c.outside.requests number)) a c.held first
+step_first g c (Answers number a old) facts first may = answer_first (tries_for g old) number (writes_or (slice_get c.outside.requests number)) a c.held first
 
 steps_first : (g : Config) (ss : List Step) (c : Core) → CoreFacts g (none_past g) c → FliesFirst c.held → AllMayStep g ss c → FliesFirst (steps_of g ss c).held
 steps_first g [] c facts first may = first

@@ -10,7 +10,7 @@ use Rattle.relay_results.specs.Outside.{Unanswered, Request, Ran, stored_in, Out
 use Rattle.relay_results.specs.declared.cause.Cause.TheVariants.{Spent}
 use Rattle.relay_delivery.specs.Causes.{carries, is_try, CarriedAt, IsTrueOf}
 use Rattle.relay_results.specs.Fates.{IsRetried}
-use Rattle.relay_delivery.specs.Machine.{Config, Core, Held, Place, Report, write_of}
+use Rattle.relay_delivery.specs.Machine.{Config, fewest, Core, Held, Place, Report, write_of}
 
 -- the operation was assigned the version, by the place at which it was taken
 pub record IsDealt (g : Config) (taken : List Op) (o : Op) (v : ℕ) : Type 0 where
@@ -101,7 +101,7 @@ pub record CauseFact (g : Config) (taken : List Op) (held : List Held) (s : Outs
   pub version : ℕ
   pub dealt : IsDealt g taken op version
   pub settled : (h : Held) → Mem h held → h.version ≡ version → ⊥
-  pub cause : IsTrueOf g.max s (write_for op version) r.cause
+  pub cause : IsTrueOf (fewest g) s (write_for op version) r.cause
 
 abbrev pub ReportFact : Config → List Op → List Held → Outside → Report → Type 0
 ReportFact g taken held s r = SpentFact g taken r ⊎ CauseFact g taken held s r

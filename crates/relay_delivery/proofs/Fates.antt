@@ -1,6 +1,6 @@
 -- Where held operations go when a request is answered.
 use Rattle.std.proofs.Common.{◌≡◌, ℕ, ◌+◌, ◌<◌, ◌≤◌, List, [], ◌∷◌, ◌++◌, Option, Some, None, Bool, true, false, ◌==◌, refl, sym, ap, ◌∙◌, subst, ⊎_elim, inl, inr, arith, length, length-append}
-use Rattle.std.specs.Prelude.{◌⊎◌, if◌then◌else◌}
+use Rattle.std.specs.Prelude.{◌⊎◌, if◌then◌else◌, min, is_some}
 use Rattle.relay_action.specs.Actions.{kind_of}
 use Rattle.relay_action.specs.declared.write.Write.{Write}
 use Rattle.relay_action.specs.declared.operation.OpName.{OpName}
@@ -11,7 +11,7 @@ use Rattle.relay_results.specs.Outside.{Answer}
 use Rattle.relay_results.specs.Fates.{Fate, Flies, Applied, Already, Retried, Halved, Reported, fate}
 use Rattle.relay_results.proofs.Lists.{equal, equal_test, some_same, Mem-cases, Mem-left, Mem-right, Mem-one, count-append}
 use Rattle.relay_results.proofs.Fates.{retried_tries}
-use Rattle.relay_delivery.specs.Machine.{Config, Held, Place, Report, report_on, fate_of, back_to_wait, with_cap, kept_one, reported_one, still_held, reports_from, is_applied_fate, is_already_fate, how_many}
+use Rattle.relay_delivery.specs.Machine.{Config, fewest, tries_for, Held, Place, Report, report_on, fate_of, back_to_wait, with_cap, kept_one, reported_one, still_held, reports_from, is_applied_fate, is_already_fate, how_many}
 use Rattle.relay_delivery.proofs.Facts.{AreRising, is_held_as, is_report_as}
 
 -- what stays held of one: as it is, or waiting again, or waiting under a cap
@@ -62,16 +62,35 @@ kept_head Retried h k m = inr (inl (refl, Mem-one k (back_to_wait h) m))
 kept_head (Halved cap) h k m = inr (inr (cap, refl, Mem-one k (with_cap cap h) m))
 kept_head (Reported e) h k m = elim m [ ]
 
-module _ (g : Config) (number : ℕ) (ws : List Write) (a : Answer) where
-  abbrev pub turn : Held → Fate
-  turn h = fate_of g number ws a h h.flies
+fewest-by : (g : Config) (a b : Bool) → (if a then min 1 g.max else g.max) ≤ (if b then (if a then min 1 g.max else g.max) else g.max)
+fewest-by g true true = omega arith
+fewest-by g true false = omega arith
+fewest-by g false true = omega arith
+fewest-by g false false = omega arith
 
-  pub kept-from : (hs : List Held) (k : Held) → Mem k (still_held g number ws a hs) → (h : Held) × Mem h hs × StaysAs (turn h) h k
+-- an operation has at least the fewest tries, and at most all
+pub fewest-least : (g : Config) (old : ℕ → Bool) (version : ℕ) → fewest g ≤ tries_for g old version
+fewest-least g old version = fewest-by g (is_some g.age) (old version)
+
+most-by : (g : Config) (a b : Bool) → (if b then (if a then min 1 g.max else g.max) else g.max) ≤ g.max
+most-by g true true = omega arith
+most-by g true false = omega arith
+most-by g false true = omega arith
+most-by g false false = omega arith
+
+pub tries-most : (g : Config) (old : ℕ → Bool) (version : ℕ) → tries_for g old version ≤ g.max
+tries-most g old version = most-by g (is_some g.age) (old version)
+
+module _ (allowed : ℕ → ℕ) (number : ℕ) (ws : List Write) (a : Answer) where
+  abbrev pub turn : Held → Fate
+  turn h = fate_of allowed number ws a h h.flies
+
+  pub kept-from : (hs : List Held) (k : Held) → Mem k (still_held allowed number ws a hs) → (h : Held) × Mem h hs × StaysAs (turn h) h k
   kept-from [] k m = elim m [ ]
   kept-from (h ∷ hs) k m = ⊎_elim
       (λ l. (h, inl refl, kept_head (turn h) h k l))
       (λ r. let s = kept-from hs k r in (s.0, inr s.1, s.2))
-      (Mem-cases k (kept_one (turn h) h) (still_held g number ws a hs) m)
+      (Mem-cases k (kept_one (turn h) h) (still_held allowed number ws a hs) m)
 
   reported_head : (t : Fate) (h : Held) (r : Report) → Mem r (reported_one t h) → (e : Cause) × (t ≡ Reported e) × (r ≡ report_on h.op e)
   reported_head Flies h r m = elim m [ ]
@@ -81,12 +100,12 @@ module _ (g : Config) (number : ℕ) (ws : List Write) (a : Answer) where
   reported_head (Halved cap) h r m = elim m [ ]
   reported_head (Reported e) h r m = (e, refl, Mem-one r (report_on h.op e) m)
 
-  pub reported-from : (hs : List Held) (r : Report) → Mem r (reports_from g number ws a hs) → (h : Held) × Mem h hs × ((e : Cause) × (turn h ≡ Reported e) × (r ≡ report_on h.op e))
+  pub reported-from : (hs : List Held) (r : Report) → Mem r (reports_from allowed number ws a hs) → (h : Held) × Mem h hs × ((e : Cause) × (turn h ≡ Reported e) × (r ≡ report_on h.op e))
   reported-from [] r m = elim m [ ]
   reported-from (h ∷ hs) r m = ⊎_elim
       (λ l. (h, inl refl, reported_head (turn h) h r l))
       (λ y. let s = reported-from hs r y in (s.0, inr s.1, s.2))
-      (Mem-cases r (reported_one (turn h) h) (reports_from g number ws a hs) m)
+      (Mem-cases r (reported_one (turn h) h) (reports_from allowed number ws a hs) m)
 
   -- it stays held, or it is done, or it is reported
   abbrev pub GoesTo : Held → List Held → List Report → Type 0
@@ -106,12 +125,12 @@ module _ (g : Config) (number : ℕ) (ws : List Write) (a : Answer) where
   goes_right : (h : Held) (ks ks' : List Held) (rs rs' : List Report) → GoesTo h ks' rs' → GoesTo h (ks ++ ks') (rs ++ rs')
   goes_right h ks ks' rs rs' w = ⊎_elim (λ m. inl (m.0, Mem-right m.0 ks ks' m.1, m.2)) (λ r. inr (⊎_elim (λ e. inl e) (λ m. inr (m.0, Mem-right (report_on h.op m.0) rs rs' m.1)) r)) w
 
-  pub goes_to : (hs : List Held) (h : Held) → Mem h hs → GoesTo h (still_held g number ws a hs) (reports_from g number ws a hs)
+  pub goes_to : (hs : List Held) (h : Held) → Mem h hs → GoesTo h (still_held allowed number ws a hs) (reports_from allowed number ws a hs)
   goes_to [] h m = elim m [ ]
   goes_to (k ∷ hs) h m = ⊎_elim
-      (λ e. subst (λ x. GoesTo x (still_held g number ws a (k ∷ hs)) (reports_from g number ws a (k ∷ hs))) (sym e)
-      (goes_left k (kept_one (turn k) k) (still_held g number ws a hs) (reported_one (turn k) k) (reports_from g number ws a hs) (goes_head (turn k) k refl)))
-      (λ r. goes_right h (kept_one (turn k) k) (still_held g number ws a hs) (reported_one (turn k) k) (reports_from g number ws a hs) (goes_to hs h r))
+      (λ e. subst (λ x. GoesTo x (still_held allowed number ws a (k ∷ hs)) (reports_from allowed number ws a (k ∷ hs))) (sym e)
+      (goes_left k (kept_one (turn k) k) (still_held allowed number ws a hs) (reported_one (turn k) k) (reports_from allowed number ws a hs) (goes_head (turn k) k refl)))
+      (λ r. goes_right h (kept_one (turn k) k) (still_held allowed number ws a hs) (reported_one (turn k) k) (reports_from allowed number ws a hs) (goes_to hs h r))
       m
 
   count_head : (n : OpName) (t : Fate) (h : Held) → count (is_held_as n) (kept_one t h) + count (is_report_as n) (reported_one t h) ≤ one_if (same_name n (name_of h.op))
@@ -123,13 +142,13 @@ module _ (g : Config) (number : ℕ) (ws : List Write) (a : Answer) where
   count_head n (Reported e) h = omega arith
 
   -- none is held or reported twice for it
-  pub count-settled : (n : OpName) (hs : List Held) → count (is_held_as n) (still_held g number ws a hs) + count (is_report_as n) (reports_from g number ws a hs) ≤ count (is_held_as n) hs
+  pub count-settled : (n : OpName) (hs : List Held) → count (is_held_as n) (still_held allowed number ws a hs) + count (is_report_as n) (reports_from allowed number ws a hs) ≤ count (is_held_as n) hs
   count-settled n [] = omega arith
   count-settled n (h ∷ hs) =
       let r = count-settled n hs in
       let e = count_head n (turn h) h in
-      let k = count-append (is_held_as n) (kept_one (turn h) h) (still_held g number ws a hs) in
-      let p = count-append (is_report_as n) (reported_one (turn h) h) (reports_from g number ws a hs) in
+      let k = count-append (is_held_as n) (kept_one (turn h) h) (still_held allowed number ws a hs) in
+      let p = count-append (is_report_as n) (reported_one (turn h) h) (reports_from allowed number ws a hs) in
       omega arith
 
   rising_head : (t : Fate) (h : Held) (ks : List Held) → ((k : Held) → Mem k ks → h.version < k.version) → AreRising ks → AreRising (kept_one t h ++ ks)
@@ -140,9 +159,9 @@ module _ (g : Config) (number : ℕ) (ws : List Write) (a : Answer) where
   rising_head (Halved cap) h ks above r = (above, r)
   rising_head (Reported e) h ks above r = r
 
-  pub rising-settled : (hs : List Held) → AreRising hs → AreRising (still_held g number ws a hs)
+  pub rising-settled : (hs : List Held) → AreRising hs → AreRising (still_held allowed number ws a hs)
   rising-settled [] r = tt
-  rising-settled (h ∷ hs) r = rising_head (turn h) h (still_held g number ws a hs)
+  rising-settled (h ∷ hs) r = rising_head (turn h) h (still_held allowed number ws a hs)
       (λ k m.
       let j = kept-from hs k m in
       let v = kept_version (turn j.0) j.0 k j.2 in
@@ -158,13 +177,13 @@ module _ (g : Config) (number : ℕ) (ws : List Write) (a : Answer) where
   totals_head (Reported e) h = refl
 
   -- each operation stays held, is done or is reported
-  pub totals-settled : (hs : List Held) → length (still_held g number ws a hs) + (how_many is_applied_fate g number ws a hs + how_many is_already_fate g number ws a hs) + length (reports_from g number ws a hs) ≡ length hs
+  pub totals-settled : (hs : List Held) → length (still_held allowed number ws a hs) + (how_many is_applied_fate allowed number ws a hs + how_many is_already_fate allowed number ws a hs) + length (reports_from allowed number ws a hs) ≡ length hs
   totals-settled [] = refl
   totals-settled (h ∷ hs) =
       let r = totals-settled hs in
       let e = totals_head (turn h) h in
-      let k = length-append (kept_one (turn h) h) (still_held g number ws a hs) in
-      let p = length-append (reported_one (turn h) h) (reports_from g number ws a hs) in
+      let k = length-append (kept_one (turn h) h) (still_held allowed number ws a hs) in
+      let p = length-append (reported_one (turn h) h) (reports_from allowed number ws a hs) in
       omega arith
 
   -- it does not fly in this request; or it flies there, and the answer has its fate
@@ -175,7 +194,7 @@ module _ (g : Config) (number : ℕ) (ws : List Write) (a : Answer) where
   pub record IsHere (h : Held) : Type 0 where
     pub place : ℕ
     pub flies : h.flies ≡ Some (record { request = number; place = place })
-    pub fate_is : turn h ≡ fate (record { version = h.version; sends = h.sends; attempts = h.attempts; max = g.max }) ws place (kind_of h.op.action) a
+    pub fate_is : turn h ≡ fate (record { version = h.version; sends = h.sends; attempts = h.attempts; max = allowed h.version }) ws place (kind_of h.op.action) a
 
   turn_by : (h : Held) (f : Place) (b : Bool) → (f.request == number) ≡ b → h.flies ≡ Some f → IsAway h ⊎ IsHere h
   turn_by h f true t e =
@@ -183,25 +202,25 @@ module _ (g : Config) (number : ℕ) (ws : List Write) (a : Answer) where
       inr (record {
         place = f.place;
         flies = e ∙ (λ i. Some (record { request = at i; place = f.place }));
-        fate_is = ap (fate_of g number ws a h) e ∙ ap (λ b. if b then fate (record { version = h.version; sends = h.sends; attempts = h.attempts; max = g.max }) ws f.place (kind_of h.op.action) a else Flies) t;
+        fate_is = ap (fate_of allowed number ws a h) e ∙ ap (λ b. if b then fate (record { version = h.version; sends = h.sends; attempts = h.attempts; max = allowed h.version }) ws f.place (kind_of h.op.action) a else Flies) t;
       })
   turn_by h f false t e = inl (record {
-    stays = ap (fate_of g number ws a h) e ∙ ap (λ b. if b then fate (record { version = h.version; sends = h.sends; attempts = h.attempts; max = g.max }) ws f.place (kind_of h.op.action) a else Flies) t;
+    stays = ap (fate_of allowed number ws a h) e ∙ ap (λ b. if b then fate (record { version = h.version; sends = h.sends; attempts = h.attempts; max = allowed h.version }) ws f.place (kind_of h.op.action) a else Flies) t;
     elsewhere = λ place e'.
         let same = some_same f (record { request = number; place = place }) (sym e ∙ e') in
         let t' = equal_test f.request number (ap (λ (x : Place). x.request) same) in cc (t, t');
   })
 
   turn_of : (h : Held) (f : Option Place) → h.flies ≡ f → IsAway h ⊎ IsHere h
-  turn_of h None e = inl (record { stays = ap (fate_of g number ws a h) e; elsewhere = λ place e'. cc (e, e') })
+  turn_of h None e = inl (record { stays = ap (fate_of allowed number ws a h) e; elsewhere = λ place e'. cc (e, e') })
   turn_of h (Some f) e = turn_by h f (f.request == number) refl e
 
   pub away_or_here : (h : Held) → IsAway h ⊎ IsHere h
   away_or_here h = turn_of h h.flies refl
 
   -- what waits again has tries left
-  pub retried_left : (h : Held) → turn h ≡ Retried → h.attempts < g.max
-  retried_left h e = ⊎_elim {C = h.attempts < g.max}
+  pub retried_left : (h : Held) → turn h ≡ Retried → h.attempts < allowed h.version
+  retried_left h e = ⊎_elim {C = h.attempts < allowed h.version}
       (λ w. absurd (cc (e, w.stays)))
-      (λ w. retried_tries (record { version = h.version; sends = h.sends; attempts = h.attempts; max = g.max }) ws w.place (kind_of h.op.action) a (sym w.fate_is ∙ e))
+      (λ w. retried_tries (record { version = h.version; sends = h.sends; attempts = h.attempts; max = allowed h.version }) ws w.place (kind_of h.op.action) a (sym w.fate_is ∙ e))
       (away_or_here h)

@@ -15,7 +15,7 @@ use Rattle.relay_results.specs.Fates.{Fate, Flies, Applied, Already, Retried, Ha
 use Rattle.relay_results.proofs.Same.{same_document-self}
 use Rattle.relay_results.proofs.Steps.{step_runs_item}
 use Rattle.relay_delivery.specs.Machine.{Config, Core, Held, Place, Step, Takes, Sends, Runs, Answers, write_of, held_if, spent_if, after_launch, fate_of, kept_one, still_held, reports_from, how_many, is_applied_fate, is_already_fate, writes_or, step, KeepsCaps, IsEligible, MaySend, MayStep, IsNew, IsFresh, CameAboutFrom}
-use Rattle.relay_delivery.specs.Lane.{Entry, Flying, State, held_of, entry_if, taken_op, waits, is_candidate, candidates, launched_entry, writes_of_all, after_request_of, kept_entry, kept_entries, is_other, after_settling, IsOf, writes_at, is_flying, after_answer_to, FitsFrom, Fits, fresh_state, FreshFits, ClockFits, TakeFits, SendFits, RunFits, AnswerFits, EndedIsApplied, SoundWhereItFits, CompleteWhereItFits, TotalWhereItFits, WritesWhereItFits, EarliestWhereItFits, OneFliesWhereItFits, tries_of, SendTakesTry, AnswerGivesNoTry}
+use Rattle.relay_delivery.specs.Lane.{tries_in, old_in, Entry, Flying, State, held_of, entry_if, taken_op, waits, is_candidate, candidates, launched_entry, writes_of_all, after_request_of, kept_entry, kept_entries, is_other, after_settling, IsOf, writes_at, is_flying, after_answer_to, FitsFrom, Fits, fresh_state, FreshFits, ClockFits, TakeFits, SendFits, RunFits, AnswerFits, EndedIsApplied, SoundWhereItFits, CompleteWhereItFits, TotalWhereItFits, WritesWhereItFits, EarliestWhereItFits, OneFliesWhereItFits, tries_of, SendTakesTry, AnswerGivesNoTry}
 use Rattle.relay_delivery.specs.Delivery.{HasDistinctNames, applied_ops, IsSound, IsComplete, IsDealtWrite}
 use Rattle.relay_delivery.specs.Bound.{tries_left}
 use Rattle.relay_delivery.proofs.Bounded.{within_tries_left, left-kept, all_tries}
@@ -116,16 +116,16 @@ module _ (s : State) (c : Core) (chosen : List Entry) (part : IsSubsequence chos
 pub may_send : (past : Past) (s : State) (c : Core) (chosen : List Entry) → IsSubsequence chosen (candidates s) → KeepsCaps (held_of chosen) → IsOf s c → CoreFacts s.config past c → MaySend c (held_of chosen)
 may_send past s c chosen part within is facts = may_send_rising s c chosen part within is facts.in_rise
 
-pub held_launched : (n : ℕ) (hs : List Held) (es : List Entry) → held_of (map (launched_entry n hs) es) ≡ map (after_launch n hs) (held_of es)
-held_launched n hs [] = refl
-held_launched n hs (e ∷ es) = ap (λ xs. after_launch n hs e.held ∷ xs) (held_launched n hs es)
+pub held_launched : (clock n : ℕ) (hs : List Held) (es : List Entry) → held_of (map (launched_entry clock n hs) es) ≡ map (after_launch n hs) (held_of es)
+held_launched clock n hs [] = refl
+held_launched clock n hs (e ∷ es) = ap (λ xs. after_launch n hs e.held ∷ xs) (held_launched clock n hs es)
 
 pub send_is_of : (s : State) (c : Core) (chosen : List Entry) → IsOf s c → IsOf (after_request_of s chosen) (step s.config (Sends (held_of chosen)) c)
 send_is_of s c chosen is =
     let new : Request = record { writes = writes_of_all chosen; answer = Unanswered } in
     record {
       taken = is.taken;
-      held = held_launched s.requests (held_of chosen) s.held ∙ (λ i. map (after_launch (is.requests i) (held_of chosen)) (is.held i));
+      held = held_launched s.clock s.requests (held_of chosen) s.held ∙ (λ i. map (after_launch (is.requests i) (held_of chosen)) (is.held i));
       reports = is.reports;
       applied = is.applied;
       already = is.already;
@@ -184,22 +184,22 @@ held_kept_one clock Retried e = refl
 held_kept_one clock (Halved cap) e = refl
 held_kept_one clock (Reported cause) e = refl
 
-pub held_kept : (g : Config) (clock number : ℕ) (ws : List Write) (a : Answer) (es : List Entry) → held_of (kept_entries g clock number ws a es) ≡ still_held g number ws a (held_of es)
-held_kept g clock number ws a [] = refl
-held_kept g clock number ws a (e ∷ es) =
-    map-append (λ (x : Entry). x.held) (kept_entry clock (fate_of g number ws a e.held e.held.flies) e) (kept_entries g clock number ws a es)
-    ∙ (λ i. held_kept_one clock (fate_of g number ws a e.held e.held.flies) e i ++ held_kept g clock number ws a es i)
+pub held_kept : (allowed : ℕ → ℕ) (clock number : ℕ) (ws : List Write) (a : Answer) (es : List Entry) → held_of (kept_entries allowed clock number ws a es) ≡ still_held allowed number ws a (held_of es)
+held_kept allowed clock number ws a [] = refl
+held_kept allowed clock number ws a (e ∷ es) =
+    map-append (λ (x : Entry). x.held) (kept_entry clock (fate_of allowed number ws a e.held e.held.flies) e) (kept_entries allowed clock number ws a es)
+    ∙ (λ i. held_kept_one clock (fate_of allowed number ws a e.held e.held.flies) e i ++ held_kept allowed clock number ws a es i)
 
 -- an answer to a request in flight, counted from 0, that carried these writes
-settle_is_of : (s : State) (c : Core) (number : ℕ) (ws : List Write) (a : Answer) → Mem (record { request = number; writes = ws }) s.flying → IsOf s c → IsOf (after_settling s number ws a) (step s.config (Answers number a) c)
+settle_is_of : (s : State) (c : Core) (number : ℕ) (ws : List Write) (a : Answer) → Mem (record { request = number; writes = ws }) s.flying → IsOf s c → IsOf (after_settling s number ws a) (step s.config (Answers number a (old_in s)) c)
 settle_is_of s c number ws a flies is =
     let here : ws ≡ writes_or (slice_get c.outside.requests number) = sym (ap writes_or (is.flying (record { request = number; writes = ws }) flies)) in
     record {
       taken = is.taken;
-      held = held_kept s.config s.clock number ws a s.held ∙ (λ i. still_held s.config number (here i) a (is.held i));
-      reports = λ i. is.reports i ++ reports_from s.config number (here i) a (is.held i);
-      applied = λ i. is.applied i + how_many is_applied_fate s.config number (here i) a (is.held i);
-      already = λ i. is.already i + how_many is_already_fate s.config number (here i) a (is.held i);
+      held = held_kept (tries_in s) s.clock number ws a s.held ∙ (λ i. still_held (tries_in s) number (here i) a (is.held i));
+      reports = λ i. is.reports i ++ reports_from (tries_in s) number (here i) a (is.held i);
+      applied = λ i. is.applied i + how_many is_applied_fate (tries_in s) number (here i) a (is.held i);
+      already = λ i. is.already i + how_many is_already_fate (tries_in s) number (here i) a (is.held i);
       requests = is.requests ∙ sym (length-update number (with_answer a) c.outside.requests);
       flying = λ x m.
           let y = Mem-filter (is_other number) x s.flying m in
@@ -223,14 +223,14 @@ pub flies_unanswered : (s : State) (c : Core) (number : ℕ) → is_flying numbe
     → slice_get c.outside.requests (from_zero number) ≡ Some (record { writes = writes_at (from_zero number) s.flying; answer = Unanswered })
 flies_unanswered s c number flies is = is.flying (record { request = from_zero number; writes = writes_at (from_zero number) s.flying }) (flies_at s.flying number flies)
 
-pub answer_is_of : (s : State) (c : Core) (number : ℕ) (a : Answer) → is_flying number s ≡ true → IsOf s c → IsOf (after_answer_to s number a) (step s.config (Answers (from_zero number) a) c)
+pub answer_is_of : (s : State) (c : Core) (number : ℕ) (a : Answer) → is_flying number s ≡ true → IsOf s c → IsOf (after_answer_to s number a) (step s.config (Answers (from_zero number) a (old_in s)) c)
 answer_is_of s c number a flies is = settle_is_of s c (from_zero number) (writes_at (from_zero number) s.flying) a (flies_at s.flying number flies) is
 
 pub answer_from : (begin : Config → Core → Type 0) (s : State) (number : ℕ) (a : Answer) (taken : List Op) (out : Outside) → is_flying number s ≡ true → MayAnswer out (from_zero number) a → FitsFrom begin s taken out
     → FitsFrom begin (after_answer_to s number a) taken (after (outside.Answers (from_zero number) a) out)
 answer_from begin s number a taken out flies may f =
     let may' : MayAnswer f.core.outside (from_zero number) a = subst (λ o. MayAnswer o (from_zero number) a) (sym f.outside) may in
-    next begin s (after_answer_to s number a) taken taken out (after (outside.Answers (from_zero number) a) out) f (Answers (from_zero number) a) refl may'
+    next begin s (after_answer_to s number a) taken taken out (after (outside.Answers (from_zero number) a) out) f (Answers (from_zero number) a (old_in s)) refl may'
     (answer_is_of s f.core number a flies f.is_of) f.took (ap (after (outside.Answers (from_zero number) a)) f.outside)
 
 pub answer_fits : AnswerFits
@@ -246,7 +246,7 @@ ended_where s number a taken out flies may f h m t =
     let same : may'.request ≡ q = some_same may'.request q (sym may'.sent ∙ here) in
     let honest : IsHonest c.outside.runs n q.writes a = subst (λ (z : Request). IsHonest c.outside.runs n z.writes a) same may'.honest in
     subst (λ (o : Outside). Mem (write_of h) (o.applied (document_of h.op.key))) f.outside
-    (ended s.config (none_past s.config) c (facts_of s.config c f.came_about) n q here refl a (no_unanswered c.outside.runs n q.writes a honest) honest (tells_none s.config c) h (subst (Mem h) f.is_of.held m) t)
+    (ended s.config (none_past s.config) c (facts_of s.config c f.came_about) n q here refl a (no_unanswered c.outside.runs n q.writes a honest) honest (old_in s) (tells_none s.config c) h (subst (Mem h) f.is_of.held m) t)
 
 -- ---- at the start, and what is promised
 
@@ -354,7 +354,7 @@ send_takes_try s chosen taken out some ne part within f =
     let new : List Request = record { writes = writes_of_all chosen; answer = Unanswered } ∷ [] in
     let one : length new ≡ 1 = refl in
     let now : tries_of (after_request_of s chosen) ≡ tries_left s.config.max (map (after_launch (length f.core.outside.requests) (held_of chosen)) f.core.held) =
-    ap (tries_left s.config.max) (held_launched s.requests (held_of chosen) s.held ∙ (λ i. map (after_launch (is.requests i) (held_of chosen)) (is.held i))) in
+    ap (tries_left s.config.max) (held_launched s.clock s.requests (held_of chosen) s.held ∙ (λ i. map (after_launch (is.requests i) (held_of chosen)) (is.held i))) in
     let before : tries_of s ≡ tries_left s.config.max f.core.held = ap (tries_left s.config.max) is.held in
     omega (arith, n, longer, one, now, before)
 
@@ -363,8 +363,8 @@ answer_gives_no_try s number a taken out some flies f =
     let c = f.core in
     let is = f.is_of in
     let ws = writes_at (from_zero number) s.flying in
-    let e = ap (tries_left s.config.max) (held_kept s.config s.clock (from_zero number) ws a s.held ∙ ap (still_held s.config (from_zero number) ws a) is.held) in
+    let e = ap (tries_left s.config.max) (held_kept (tries_in s) s.clock (from_zero number) ws a s.held ∙ ap (still_held (tries_in s) (from_zero number) ws a) is.held) in
     let q : Request = record { writes = ws; answer = Unanswered } in
-    let le = left-kept s.config c.outside.requests (from_zero number) q (flies_unanswered s c number flies is) a c.held (all_tries s.config c some f.came_about) in
+    let le = left-kept s.config (old_in s) c.outside.requests (from_zero number) q (flies_unanswered s c number flies is) a c.held (all_tries s.config c some f.came_about) in
     let before = ap (tries_left s.config.max) is.held in
     omega (arith, e, le, before)

@@ -62,7 +62,7 @@ pub step_keeps : (g : Config) (past : Past) (c : Core) (f : CoreFacts g past c) 
 step_keeps g past c f (Takes o) may = take_keeps g past c f o
 step_keeps g past c f (Sends chosen) may = send_keeps g past c f chosen may
 step_keeps g past c f (Runs r) may = run_keeps g past c f r may
-step_keeps g past c f (Answers number a) may = answer_keeps g past c f number a may
+step_keeps g past c f (Answers number a old) may = answer_keeps g past c f number a old may
 
 pub steps_keep : (g : Config) (past : Past) (ss : List Step) (c : Core) → CoreFacts g past c → AllMayStep g ss c → CoreFacts g past (steps_of g ss c)
 steps_keep g past [] c f may = f

@@ -99,10 +99,10 @@ acts_keep_names stored g lane_of ended s (SendsFrom l chosen) k c may none =
     (λ m. ([], lane_by (λ c. c.taken) s.lanes l m (step g (Sends chosen) (s.lanes.lane l)) (m == l) refl refl ∙ sym (append-nil (s.lanes.lane m).taken)))
     (λ m. lane_by (λ c. c.outside.applied) s.lanes l m (step g (Sends chosen) (s.lanes.lane l)) (m == l) refl refl) k
 acts_keep_names stored g lane_of ended s (RunsAt request place o from) k c may none = absurd none
-acts_keep_names stored g lane_of ended s (AnswersAt request a from) k c may none =
-    names_kept stored g lane_of ended s (act g lane_of (AnswersAt request a from) s) (facts_of_life stored g lane_of ended s c)
-    (λ m. ([], lane_by (λ c. c.taken) s.lanes from.lane m (step g (Answers from.number a) (s.lanes.lane from.lane)) (m == from.lane) refl refl ∙ sym (append-nil (s.lanes.lane m).taken)))
-    (λ m. lane_by (λ c. c.outside.applied) s.lanes from.lane m (step g (Answers from.number a) (s.lanes.lane from.lane)) (m == from.lane) refl refl) k
+acts_keep_names stored g lane_of ended s (AnswersAt request a old from) k c may none =
+    names_kept stored g lane_of ended s (act g lane_of (AnswersAt request a old from) s) (facts_of_life stored g lane_of ended s c)
+    (λ m. ([], lane_by (λ c. c.taken) s.lanes from.lane m (step g (Answers from.number a old) (s.lanes.lane from.lane)) (m == from.lane) refl refl ∙ sym (append-nil (s.lanes.lane m).taken)))
+    (λ m. lane_by (λ c. c.outside.applied) s.lanes from.lane m (step g (Answers from.number a old) (s.lanes.lane from.lane)) (m == from.lane) refl refl) k
 
 pub restarts_keep_names : RestartsKeepNames
 restarts_keep_names stored g new lane_of ended s k c =

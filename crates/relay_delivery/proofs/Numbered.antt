@@ -12,8 +12,8 @@ use Rattle.relay_results.specs.Numbers.{from_one, from_zero}
 use Rattle.relay_results.specs.Fates.{Fate, Flies, Applied, Already, Retried, Halved, Reported, fate}
 use Rattle.relay_action.specs.Actions.{kind_of}
 use Rattle.relay_results.proofs.Lists.{true_or_false, equal, equal_test, any_true, sub-map}
-use Rattle.relay_delivery.specs.Machine.{Config, Core, Held, Place, Takes, Sends, Answers, step, write_of, KeepsCaps, MaySend, place_of, launched_at, fate_of, reported_one, reports_from, how_many, is_applied_fate, is_already_fate}
-use Rattle.relay_delivery.specs.Lane.{Entry, Flying, State, held_of, entry_if, taken_op, waits, is_later, is_candidate, candidates, launched_entry, writes_of_all, after_request_of, kept_entry, kept_entries, is_other, after_settling, writes_at, is_flying, after_answer_to, fresh_state, IsOf}
+use Rattle.relay_delivery.specs.Machine.{Config, tries_for, Core, Held, Place, Takes, Sends, Answers, step, write_of, KeepsCaps, MaySend, place_of, launched_at, fate_of, reported_one, reports_from, how_many, is_applied_fate, is_already_fate}
+use Rattle.relay_delivery.specs.Lane.{tries_in, old_in, has_age, since_sent, Entry, Flying, State, held_of, entry_if, taken_op, waits, is_later, is_candidate, candidates, launched_entry, writes_of_all, after_request_of, kept_entry, kept_entries, is_other, after_settling, writes_at, is_flying, after_answer_to, fresh_state, IsOf}
 use Rattle.relay_delivery.specs.Restarts.{restarted_core}
 use Rattle.relay_delivery.proofs.Facts.{Past, CoreFacts}
 use Rattle.relay_delivery.proofs.Fitting.{take_is_of, may_send, send_is_of, flies_unanswered, answer_is_of}
@@ -73,13 +73,18 @@ launched_on : (n number : ℕ) (h : Held) (p : Option ℕ) → launched_at (n + 
 launched_on n number h None = refl
 launched_on n number h (Some place) = refl
 
-launched_entries : (n number : ℕ) (chosen es : List Entry) → map (launched_entry (n + number) (held_of (map (entry_on n) chosen))) (map (entry_on n) es) ≡ map (entry_on n) (map (launched_entry number (held_of chosen)) es)
-launched_entries n number chosen [] = refl
-launched_entries n number chosen (e ∷ es) =
+since_on : (n clock : ℕ) (e : Entry) (p : Option ℕ) → since_sent clock (entry_on n e) p ≡ since_sent clock e p
+since_on n clock e None = refl
+since_on n clock e (Some place) = refl
+
+launched_entries : (n clock number : ℕ) (chosen es : List Entry) → map (launched_entry clock (n + number) (held_of (map (entry_on n) chosen))) (map (entry_on n) es) ≡ map (entry_on n) (map (launched_entry clock number (held_of chosen)) es)
+launched_entries n clock number chosen [] = refl
+launched_entries n clock number chosen (e ∷ es) =
     let p = place_of_on n e.held.version chosen in
     let h = ap (launched_at (n + number) (held_on n e.held)) p ∙ launched_on n number e.held (place_of e.held.version (held_of chosen)) in
-    let rest = launched_entries n number chosen es in
-    λ i. record { held = h i; bytes = e.bytes; taken_at = e.taken_at; due = e.due } ∷ rest i
+    let since = ap (since_sent clock (entry_on n e)) p ∙ since_on n clock e (place_of e.held.version (held_of chosen)) in
+    let rest = launched_entries n clock number chosen es in
+    λ i. record { held = h i; bytes = e.bytes; taken_at = e.taken_at; since = since i; due = e.due } ∷ rest i
 
 writes_on_all : (n : ℕ) (es : List Entry) → writes_of_all (map (entry_on n) es) ≡ writes_of_all es
 writes_on_all n [] = refl
@@ -88,7 +93,7 @@ writes_on_all n (e ∷ es) = let r = writes_on_all n es in λ i. record { key = 
 pub sends_on : SendsOn
 sends_on n s chosen =
     let requests : n + s.requests + 1 ≡ n + (s.requests + 1) = omega arith in
-    let held = launched_entries n s.requests chosen s.held in
+    let held = launched_entries n s.clock s.requests chosen s.held in
     let flying : map (flying_on n) s.flying ++ record { request = n + s.requests; writes = writes_of_all (map (entry_on n) chosen) } ∷ [] ≡ map (flying_on n) (s.flying ++ record { request = s.requests; writes = writes_of_all chosen } ∷ []) =
     (λ i. map (flying_on n) s.flying ++ record { request = n + s.requests; writes = writes_on_all n chosen i } ∷ [])
     ∙ sym (map-append (flying_on n) s.flying (record { request = s.requests; writes = writes_of_all chosen } ∷ [])) in
@@ -113,10 +118,10 @@ writes_on n request (f ∷ fs) =
     let rest = writes_on n request fs in
     λ i. if t i then f.writes else rest i
 
-fate_on : (g : Config) (n request : ℕ) (ws : List Write) (a : Answer) (h : Held) (p : Option Place) → fate_of g (n + request) ws a (held_on n h) (place_on n p) ≡ fate_of g request ws a h p
-fate_on g n request ws a h None = refl
-fate_on g n request ws a h (Some f) =
-    ap (λ t. if t then fate (record { version = h.version; sends = h.sends; attempts = h.attempts; max = g.max }) ws f.place (kind_of h.op.action) a else Flies) (same_on n f.request request)
+fate_on : (allowed : ℕ → ℕ) (n request : ℕ) (ws : List Write) (a : Answer) (h : Held) (p : Option Place) → fate_of allowed (n + request) ws a (held_on n h) (place_on n p) ≡ fate_of allowed request ws a h p
+fate_on allowed n request ws a h None = refl
+fate_on allowed n request ws a h (Some f) =
+    ap (λ t. if t then fate (record { version = h.version; sends = h.sends; attempts = h.attempts; max = allowed h.version }) ws f.place (kind_of h.op.action) a else Flies) (same_on n f.request request)
 
 kept_on : (n clock : ℕ) (x : Fate) (e : Entry) → kept_entry clock x (entry_on n e) ≡ map (entry_on n) (kept_entry clock x e)
 kept_on n clock Flies e = refl
@@ -126,13 +131,13 @@ kept_on n clock Retried e = refl
 kept_on n clock (Halved cap) e = refl
 kept_on n clock (Reported cause) e = refl
 
-kept_all : (g : Config) (n clock request : ℕ) (ws : List Write) (a : Answer) (es : List Entry) → kept_entries g clock (n + request) ws a (map (entry_on n) es) ≡ map (entry_on n) (kept_entries g clock request ws a es)
-kept_all g n clock request ws a [] = refl
-kept_all g n clock request ws a (e ∷ es) =
-    let x = fate_on g n request ws a e.held e.held.flies in
-    let one = ap (λ z. kept_entry clock z (entry_on n e)) x ∙ kept_on n clock (fate_of g request ws a e.held e.held.flies) e in
-    let rest = kept_all g n clock request ws a es in
-    (λ i. one i ++ rest i) ∙ sym (map-append (entry_on n) (kept_entry clock (fate_of g request ws a e.held e.held.flies) e) (kept_entries g clock request ws a es))
+kept_all : (allowed : ℕ → ℕ) (n clock request : ℕ) (ws : List Write) (a : Answer) (es : List Entry) → kept_entries allowed clock (n + request) ws a (map (entry_on n) es) ≡ map (entry_on n) (kept_entries allowed clock request ws a es)
+kept_all allowed n clock request ws a [] = refl
+kept_all allowed n clock request ws a (e ∷ es) =
+    let x = fate_on allowed n request ws a e.held e.held.flies in
+    let one = ap (λ z. kept_entry clock z (entry_on n e)) x ∙ kept_on n clock (fate_of allowed request ws a e.held e.held.flies) e in
+    let rest = kept_all allowed n clock request ws a es in
+    (λ i. one i ++ rest i) ∙ sym (map-append (entry_on n) (kept_entry clock (fate_of allowed request ws a e.held e.held.flies) e) (kept_entries allowed clock request ws a es))
 
 reported_on : (n : ℕ) (x : Fate) (h : Held) → reported_one x (held_on n h) ≡ reported_one x h
 reported_on n Flies h = refl
@@ -142,19 +147,19 @@ reported_on n Retried h = refl
 reported_on n (Halved cap) h = refl
 reported_on n (Reported cause) h = refl
 
-reported_all : (g : Config) (n request : ℕ) (ws : List Write) (a : Answer) (es : List Entry) → reports_from g (n + request) ws a (held_of (map (entry_on n) es)) ≡ reports_from g request ws a (held_of es)
-reported_all g n request ws a [] = refl
-reported_all g n request ws a (e ∷ es) =
-    let x = fate_on g n request ws a e.held e.held.flies in
-    let one = ap (λ z. reported_one z (held_on n e.held)) x ∙ reported_on n (fate_of g request ws a e.held e.held.flies) e.held in
-    let rest = reported_all g n request ws a es in
+reported_all : (allowed : ℕ → ℕ) (n request : ℕ) (ws : List Write) (a : Answer) (es : List Entry) → reports_from allowed (n + request) ws a (held_of (map (entry_on n) es)) ≡ reports_from allowed request ws a (held_of es)
+reported_all allowed n request ws a [] = refl
+reported_all allowed n request ws a (e ∷ es) =
+    let x = fate_on allowed n request ws a e.held e.held.flies in
+    let one = ap (λ z. reported_one z (held_on n e.held)) x ∙ reported_on n (fate_of allowed request ws a e.held e.held.flies) e.held in
+    let rest = reported_all allowed n request ws a es in
     λ i. one i ++ rest i
 
-many_on : (test : Fate → Bool) (g : Config) (n request : ℕ) (ws : List Write) (a : Answer) (es : List Entry) → how_many test g (n + request) ws a (held_of (map (entry_on n) es)) ≡ how_many test g request ws a (held_of es)
-many_on test g n request ws a [] = refl
-many_on test g n request ws a (e ∷ es) =
-    let x = fate_on g n request ws a e.held e.held.flies in
-    let rest = many_on test g n request ws a es in
+many_on : (test : Fate → Bool) (allowed : ℕ → ℕ) (n request : ℕ) (ws : List Write) (a : Answer) (es : List Entry) → how_many test allowed (n + request) ws a (held_of (map (entry_on n) es)) ≡ how_many test allowed request ws a (held_of es)
+many_on test allowed n request ws a [] = refl
+many_on test allowed n request ws a (e ∷ es) =
+    let x = fate_on allowed n request ws a e.held e.held.flies in
+    let rest = many_on test allowed n request ws a es in
     λ i. one_if (test (x i)) + rest i
 
 others_on : (n request : ℕ) (fs : List Flying) → filter (is_other (n + request)) (map (flying_on n) fs) ≡ map (flying_on n) (filter (is_other request) fs)
@@ -168,13 +173,23 @@ others_on n request (f ∷ fs) =
     by true = refl
     by false = refl
 
+old_along : (n version : ℕ) (age : Option ℕ) (clock : ℕ) (es : List Entry)
+    → list_any (λ (e : Entry). (e.held.version == version) && has_age age clock e.since) (map (entry_on n) es) ≡ list_any (λ (e : Entry). (e.held.version == version) && has_age age clock e.since) es
+old_along n version age clock [] = refl
+old_along n version age clock (e ∷ es) = ap (λ b. ((e.held.version == version) && has_age age clock e.since) || b) (old_along n version age clock es)
+
+-- the same operations are old
+pub old_on : (n : ℕ) (s : State) → old_in (numbered_on n s) ≡ old_in s
+old_on n s = λ i version. old_along n version s.config.age s.clock s.held i
+
 pub settles_on : SettlesOn
 settles_on n s request ws a =
-    let held = kept_all s.config n s.clock request ws a s.held in
+    let same = ap (tries_for s.config) (old_on n s) in
+    let held = ap (λ m. kept_entries m s.clock (n + request) ws a (map (entry_on n) s.held)) same ∙ kept_all (tries_in s) n s.clock request ws a s.held in
     let flying = others_on n request s.flying in
-    let reports = reported_all s.config n request ws a s.held in
-    let applied = many_on is_applied_fate s.config n request ws a s.held in
-    let already = many_on is_already_fate s.config n request ws a s.held in
+    let reports = ap (λ m. reports_from m (n + request) ws a (held_of (map (entry_on n) s.held))) same ∙ reported_all (tries_in s) n request ws a s.held in
+    let applied = ap (λ m. how_many is_applied_fate m (n + request) ws a (held_of (map (entry_on n) s.held))) same ∙ many_on is_applied_fate (tries_in s) n request ws a s.held in
+    let already = ap (λ m. how_many is_already_fate m (n + request) ws a (held_of (map (entry_on n) s.held))) same ∙ many_on is_already_fate (tries_in s) n request ws a s.held in
     λ i. record (numbered_on n s) {
       held = held i;
       flying = flying i;
@@ -269,7 +284,7 @@ unanswered_on n s c number t is =
     ∙ ap (λ ws. Some (record { writes = ws; answer = Unanswered })) (writes_on n (number - 1) s.flying)
 
 pub answer_on : (n : ℕ) (s : State) (c : Core) (number : ℕ) (a : Answer) → is_flying number s ≡ true → IsOf (numbered_on n s) c
-    → IsOf (numbered_on n (after_answer_to s number a)) (step s.config (Answers (from_zero (n + number)) a) c)
+    → IsOf (numbered_on n (after_answer_to s number a)) (step s.config (Answers (from_zero (n + number)) a (old_in (numbered_on n s))) c)
 answer_on n s c number a t is =
-    subst (λ x. IsOf x (step s.config (Answers (from_zero (n + number)) a) c)) (answers_on n s number a t)
+    subst (λ x. IsOf x (step s.config (Answers (from_zero (n + number)) a (old_in (numbered_on n s))) c)) (answers_on n s number a t)
     (answer_is_of (numbered_on n s) c (n + number) a (flies_on n number s ∙ t) is)

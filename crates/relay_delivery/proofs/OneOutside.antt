@@ -94,15 +94,15 @@ module _ (g : Config) (lane_of : Document → ℕ) (past : ℕ → Past) (s : To
   honest_here i from ws (outside.Whole status reason) origin h = h
   honest_here i from ws (outside.Lost why) origin h = h
 
-  answer_continues : (i : ℕ) (a : Answer) (from : Origin) → MayAct g (AnswersAt i a from) s → Continues (outside_of lane_of s) (outside_of lane_of (act g lane_of (AnswersAt i a from) s))
-  answer_continues i a from may =
-      let c = step g (Answers from.number a) (s.lanes.lane from.lane) in
+  answer_continues : (i : ℕ) (a : Answer) (old : ℕ → Bool) (from : Origin) → MayAct g (AnswersAt i a old from) s → Continues (outside_of lane_of s) (outside_of lane_of (act g lane_of (AnswersAt i a old from) s))
+  answer_continues i a old from may =
+      let c = step g (Answers from.number a old) (s.lanes.lane from.lane) in
       let p = f.same i from may.0 in
       let same : p.request ≡ may.1.request = some_same p.request may.1.request (sym p.there ∙ may.1.sent) in
-      by_event (outside_of lane_of s) (outside_of lane_of (act g lane_of (AnswersAt i a from) s)) (outside.Answers i a)
+      by_event (outside_of lane_of s) (outside_of lane_of (act g lane_of (AnswersAt i a old from) s)) (outside.Answers i a)
       (record { request = may.1.request; sent = p.here ∙ ap Some same; open_yet = may.1.open_yet; honest = honest_here i from may.1.request.writes a may.0 may.1.honest })
       (λ j. record {
-        requests = (act g lane_of (AnswersAt i a from) s).sent;
+        requests = (act g lane_of (AnswersAt i a old from) s).sent;
         runs = s.runs;
         stored = λ k. stored_by from.lane c refl refl refl (lane_of k) (lane_of k == from.lane) refl j k;
         before = λ k. before_by from.lane c refl refl refl (lane_of k) (lane_of k == from.lane) refl j k;
@@ -226,4 +226,4 @@ pub act_continues : (g : Config) (lane_of : Document → ℕ) (past : ℕ → Pa
 act_continues g lane_of past s f (Plain m) may = plain_continues g lane_of past s f m may.0
 act_continues g lane_of past s f (SendsFrom l chosen) may = send_continues g lane_of past s f l chosen
 act_continues g lane_of past s f (RunsAt i place o from) may = run_continues g lane_of past s f i place o from may
-act_continues g lane_of past s f (AnswersAt i a from) may = answer_continues g lane_of past s f i a from may
+act_continues g lane_of past s f (AnswersAt i a old from) may = answer_continues g lane_of past s f i a old from may

@@ -111,7 +111,7 @@ module _ (g : Config) (lane_of : Document → ℕ) (past : ℕ → Past) (w : La
   inner_taken (Takes o) c i = absurd i
   inner_taken (Sends chosen) c i = refl
   inner_taken (Runs r) c i = refl
-  inner_taken (Answers number a) c i = refl
+  inner_taken (Answers number a old) c i = refl
 
   pub inner_keeps : (s : Step) → IsInner s → MayStep s (w.lane l) → LanesFacts g lane_of past (move g lane_of (Steps l s) w)
   inner_keeps s i may = record {

@@ -14,7 +14,7 @@ use Rattle.relay_results.specs.Fates.{Flies}
 use Rattle.relay_results.proofs.Fates.{says_as}
 use Rattle.relay_results.proofs.Lists.{true_or_false, equal, equal_test, not_true, some_same, filter-Mem, Mem-last, at-Mem, at-last, at-map, map-at, Mem-at, Mem-cases, Mem-left, Mem-one, Mem-map, map-Mem, Mem-filter, filter_sub, AllDistinct-sub, sub-map, distinct_places}
 use Rattle.relay_delivery.specs.Machine.{Config, Held, Place, write_of, held_if, spent_if, place_of, launched_at, after_launch, still_held, reports_from}
-use Rattle.relay_delivery.specs.Lane.{Entry, Flying, State, held_of, entry_if, taken_op, candidates, launched_entry, writes_of_all, after_request_of, is_other, after_settling, writes_at, after_answer_to, fresh_state}
+use Rattle.relay_delivery.specs.Lane.{tries_in, old_in, Entry, Flying, State, held_of, entry_if, taken_op, candidates, launched_entry, writes_of_all, after_request_of, is_other, after_settling, writes_at, after_answer_to, fresh_state}
 use Rattle.relay_delivery.specs.Reach.{Call, Takes, Ticks, Sends, Answers, call, MayCall, calls_of, AllMayCall, taken_by, taken_in, Reached, place_at, IsInFlight, documents_of, ReachedHolds, FreshReached, CallReached}
 use Rattle.relay_delivery.proofs.Facts.{IsDealt, AreRising}
 use Rattle.relay_delivery.proofs.Dealt.{dealt_before, dealt-more}
@@ -133,7 +133,7 @@ module _ (s : State) (chosen : List Entry) (part : IsSubsequence chosen (candida
   new = record { request = s.requests; writes = writes_of_all chosen }
 
   now : held_of (after_request_of s chosen).held ≡ map (after_launch s.requests cs) hs
-  now = held_launched s.requests cs s.held
+  now = held_launched s.clock s.requests cs s.held
 
   distinct : AllDistinct (map (λ (h : Held). h.version) cs)
   distinct = distinct_here s chosen part k.rising
@@ -213,55 +213,55 @@ module _ (s : State) (chosen : List Entry) (part : IsSubsequence chosen (candida
     numbers = subst (λ ns. AllDistinct ns) (sym (map-append number_of s.flying (new ∷ [])))
         (distinct_push (map number_of s.flying) s.requests k.numbers (λ m. let f = Mem-map number_of s.requests s.flying m in let lt = k.below f.0 f.1 in let e = f.2 in absurd (omega (arith, lt, e))));
     count = k.count;
-    totals = let t = k.totals in let l = length-map s.held (launched_entry s.requests cs) in omega (arith, t, l);
+    totals = let t = k.totals in let l = length-map s.held (launched_entry s.clock s.requests cs) in omega (arith, t, l);
   }
 
 -- ---- answer
 
 module _ (s : State) (n : ℕ) (ws : List Write) (a : Answer) (given : a ≢ Unanswered) (taken : List Op) (k : Keeps s taken) where
   abbrev left : List Held
-  left = still_held s.config n ws a (held_of s.held)
+  left = still_held (tries_in s) n ws a (held_of s.held)
 
   left_is : held_of (after_settling s n ws a).held ≡ left
-  left_is = held_kept s.config s.clock n ws a s.held
+  left_is = held_kept (tries_in s) s.clock n ws a s.held
 
   each_left : EachFlies left (filter (is_other n) s.flying)
   each_left f place w m at =
       let x = Mem-filter (is_other n) f s.flying m in
       let y = k.each f place w x.0 at in
       ⊎_elim {C = IsAtPlace left w (place_at f.request place)}
-      (λ z. record { held_op = y.held_op; is_in = stays_in s.config n ws a (held_of s.held) y.held_op y.is_in z.stays; flies = y.flies; write = y.write })
+      (λ z. record { held_op = y.held_op; is_in = stays_in (tries_in s) n ws a (held_of s.held) y.held_op y.is_in z.stays; flies = y.flies; write = y.write })
       (λ z.
       let same : f.request ≡ n = ap (λ (p : Place). p.request) (some_same (place_at f.request place) (place_at n z.place) (sym y.flies ∙ z.flies)) in
       let t = equal_test f.request n same in let no = not_true (f.request == n) x.1 in absurd (cc (t, no)))
-      (away_or_here s.config n ws a y.held_op)
+      (away_or_here (tries_in s) n ws a y.held_op)
 
   -- what still flies does so in another request
   other : (f : Flying) → (f.request ≡ n → ⊥) → is_other n f ≡ true
   other f ne = ⊎_elim {C = is_other n f ≡ true} (λ t. absurd (ne (equal f.request n t))) (λ e. ap not e) (true_or_false (f.request == n))
 
-  stays_there : (h : Held) (p : Place) → Mem h (held_of s.held) → turn s.config n ws a h ≡ Flies → h.flies ≡ Some p → IsInFlight (filter (is_other n) s.flying) (write_of h) p
+  stays_there : (h : Held) (p : Place) → Mem h (held_of s.held) → turn (tries_in s) n ws a h ≡ Flies → h.flies ≡ Some p → IsInFlight (filter (is_other n) s.flying) (write_of h) p
   stays_there h p m t fl = ⊎_elim {C = IsInFlight (filter (is_other n) s.flying) (write_of h) p}
       (λ z.
       let y = k.stands h p m fl in
       let ne : y.of.request ≡ n → ⊥ = (λ e. let same : p.request ≡ n = sym y.request ∙ e in z.elsewhere p.place (fl ∙ (λ i. Some (place_at (same i) p.place)))) in
       record { of = y.of; is_in = filter-Mem (is_other n) y.of s.flying y.is_in (other y.of ne); request = y.request; stands = y.stands })
-      (λ z. absurd (given (says_as (record { version = h.version; sends = h.sends; attempts = h.attempts; max = s.config.max }) ws z.place (kind_of h.op.action) a Flies (sym z.fate_is ∙ t))))
-      (away_or_here s.config n ws a h)
+      (λ z. absurd (given (says_as (record { version = h.version; sends = h.sends; attempts = h.attempts; max = tries_in s h.version }) ws z.place (kind_of h.op.action) a Flies (sym z.fate_is ∙ t))))
+      (away_or_here (tries_in s) n ws a h)
 
   settle_keeps : Keeps (after_settling s n ws a) taken
   settle_keeps = record {
-    rising = subst (λ xs. AreRising xs) (sym left_is) (rising-settled s.config n ws a (held_of s.held) k.rising);
+    rising = subst (λ xs. AreRising xs) (sym left_is) (rising-settled (tries_in s) n ws a (held_of s.held) k.rising);
     dealt = λ h m.
-        let x = kept-from s.config n ws a (held_of s.held) h (subst (λ xs. Mem h xs) left_is m) in
-        let v = kept_version (turn s.config n ws a x.0) x.0 h x.2 in
-        let o = kept_op (turn s.config n ws a x.0) x.0 h x.2 in
+        let x = kept-from (tries_in s) n ws a (held_of s.held) h (subst (λ xs. Mem h xs) left_is m) in
+        let v = kept_version (turn (tries_in s) n ws a x.0) x.0 h x.2 in
+        let o = kept_op (turn (tries_in s) n ws a x.0) x.0 h x.2 in
         let d = k.dealt x.0 x.1 in
         record { place = d.place; stands = d.stands ∙ ap Some (sym o); within = d.within; version = v ∙ d.version };
-    first = subst (λ xs. FliesFirst xs) (sym left_is) (answer_first s.config n ws a (held_of s.held) k.first);
+    first = subst (λ xs. FliesFirst xs) (sym left_is) (answer_first (tries_in s) n ws a (held_of s.held) k.first);
     each = subst (λ xs. EachFlies xs (filter (is_other n) s.flying)) (sym left_is) each_left;
     stands = λ h p m fl.
-        let x = kept-from s.config n ws a (held_of s.held) h (subst (λ xs. Mem h xs) left_is m) in
+        let x = kept-from (tries_in s) n ws a (held_of s.held) h (subst (λ xs. Mem h xs) left_is m) in
         ⊎_elim {C = IsInFlight (filter (is_other n) s.flying) (write_of h) p}
         (λ y. subst (λ (z : Held). IsInFlight (filter (is_other n) s.flying) (write_of z) p) (sym y.1) (stays_there x.0 p x.1 y.0 (ap (λ (z : Held). z.flies) (sym y.1) ∙ fl)))
         (λ r. ⊎_elim {C = IsInFlight (filter (is_other n) s.flying) (write_of h) p}
@@ -274,8 +274,8 @@ module _ (s : State) (n : ℕ) (ws : List Write) (a : Answer) (given : a ≢ Una
     count = k.count;
     totals =
         let t = k.totals in
-        let e = totals-settled s.config n ws a (held_of s.held) in
-        let r = length-append s.reports (reports_from s.config n ws a (held_of s.held)) in
+        let e = totals-settled (tries_in s) n ws a (held_of s.held) in
+        let r = length-append s.reports (reports_from (tries_in s) n ws a (held_of s.held)) in
         let l = length-map s.held (λ (x : Entry). x.held) in
         let m = length-map (after_settling s n ws a).held (λ (x : Entry). x.held) in
         let now = ap length left_is in

@@ -13,7 +13,7 @@ use Rattle.relay_results.specs.Outside.{Answer}
 use Rattle.relay_results.proofs.Lists.{Mem-left, Mem-last, Mem-one, Mem-cases, Mem-map, count-append}
 use Rattle.relay_delivery.specs.Machine.{Config, Held, Report, report_on, held_if, spent_if, place_of, after_launch, launched_at, still_held, reports_from}
 use Rattle.relay_delivery.specs.Delivery.{HasDistinctNames, names_of}
-use Rattle.relay_delivery.specs.Lane.{Entry, State, held_of, entry_if, taken_op, after_request_of, writes_at, after_answer_to, fresh_state}
+use Rattle.relay_delivery.specs.Lane.{tries_in, Entry, State, held_of, entry_if, taken_op, after_request_of, writes_at, after_answer_to, fresh_state}
 use Rattle.relay_delivery.specs.Reach.{Call, Takes, Ticks, Sends, Answers, call, calls_of, taken_by, taken_in, Reached}
 use Rattle.relay_delivery.proofs.Facts.{is_held_as, is_report_as, is_taken_as}
 use Rattle.relay_delivery.proofs.Take.{is_new_held}
@@ -91,21 +91,21 @@ send_names request chosen held reports taken y = record {
 
 -- ---- answer
 
-settle_names : (g : Config) (n : ℕ) (ws : List Write) (a : Answer) (held : List Held) (reports : List Report) (taken : List Op) → Names held reports taken → Names (still_held g n ws a held) (reports ++ reports_from g n ws a held) taken
-settle_names g n ws a held reports taken y = record {
+settle_names : (allowed : ℕ → ℕ) (n : ℕ) (ws : List Write) (a : Answer) (held : List Held) (reports : List Report) (taken : List Op) → Names held reports taken → Names (still_held allowed n ws a held) (reports ++ reports_from allowed n ws a held) taken
+settle_names allowed n ws a held reports taken y = record {
   held_op = λ h m.
-      let x = kept-from g n ws a held h m in
-      subst (λ (z : Op). Mem z taken) (sym (kept_op (turn g n ws a x.0) x.0 h x.2)) (y.held_op x.0 x.1);
+      let x = kept-from allowed n ws a held h m in
+      subst (λ (z : Op). Mem z taken) (sym (kept_op (turn allowed n ws a x.0) x.0 h x.2)) (y.held_op x.0 x.1);
   report_on = λ r m. ⊎_elim {C = IsOnTaken taken r}
       (λ old. y.report_on r old)
       (λ new.
-      let x = reported-from g n ws a held r new in
+      let x = reported-from allowed n ws a held r new in
       record { op = x.0.op; was_taken = y.held_op x.0 x.1; name = ap (λ (z : Report). z.name) x.2.2; document = ap (λ (z : Report). z.document) x.2.2 })
-      (Mem-cases r reports (reports_from g n ws a held) m);
+      (Mem-cases r reports (reports_from allowed n ws a held) m);
   apart = λ name.
       let b = y.apart name in
-      let r = count-append (is_report_as name) reports (reports_from g n ws a held) in
-      let e = count-settled g n ws a name held in
+      let r = count-append (is_report_as name) reports (reports_from allowed n ws a held) in
+      let e = count-settled allowed n ws a name held in
       omega (arith, b, r, e);
 }
 
@@ -125,12 +125,12 @@ call_names (Takes o bytes) s taken y =
     with_held _ _ _ _ now (take_names b s.config s.taken o (held_of s.held) s.reports taken y)
 call_names (Ticks clock) s taken y = subst (λ os. NamesOf s os) (sym (append-nil taken)) y
 call_names (Sends chosen) s taken y = subst (λ os. NamesOf (after_request_of s chosen) os) (sym (append-nil taken))
-    (with_held _ _ _ _ (held_launched s.requests (held_of chosen) s.held) (send_names s.requests (held_of chosen) (held_of s.held) s.reports taken y))
+    (with_held _ _ _ _ (held_launched s.clock s.requests (held_of chosen) s.held) (send_names s.requests (held_of chosen) (held_of s.held) s.reports taken y))
 call_names (Answers number a) s taken y =
     let n = from_zero number in
     let ws = writes_at n s.flying in
     subst (λ os. NamesOf (after_answer_to s number a) os) (sym (append-nil taken))
-    (with_held _ _ _ _ (held_kept s.config s.clock n ws a s.held) (settle_names s.config n ws a (held_of s.held) s.reports taken y))
+    (with_held _ _ _ _ (held_kept (tries_in s) s.clock n ws a s.held) (settle_names (tries_in s) n ws a (held_of s.held) s.reports taken y))
 
 calls_names : (cs : List Call) (s : State) (taken : List Op) → NamesOf s taken → NamesOf (calls_of cs s) (taken ++ taken_in cs)
 calls_names [] s taken y = subst (λ os. NamesOf s os) (sym (append-nil taken)) y

@@ -16,7 +16,7 @@ use Rattle.relay_results.specs.declared.cause.Cause.TheVariants as cause
 use Rattle.relay_delivery.specs.Causes.{IsAnswered, IsTrueOf}
 use Rattle.relay_results.proofs.Same.{same_document-true, same_document-self}
 use Rattle.relay_results.proofs.Excluded.{with_error}
-use Rattle.relay_delivery.specs.Machine.{Config, Core, with_outside, step, Runs}
+use Rattle.relay_delivery.specs.Machine.{fewest, Config, Core, with_outside, step, Runs}
 use Rattle.relay_results.proofs.Lists.{at-Mem, Mem-left, Mem-last, Mem-push_cases}
 use Rattle.relay_delivery.proofs.Facts.{Past, IsKnown, TellsOwn, IsSent, RunFact, IsRising, IndexFact, CoreFacts}
 use Rattle.relay_delivery.proofs.Dealt.{sent_by}
@@ -103,7 +103,7 @@ module _ (g : Config) (past : Past) (c : Core) (f : CoreFacts g past c) (r : Ran
           version = s.version;
           dealt = s.dealt;
           settled = s.settled;
-          cause = cause-more g.max c.outside (c.outside.runs ++ r ∷ []) c.outside.stored c.outside.applied (write_for s.op s.version) p.cause (λ x y. Mem-left x c.outside.runs (r ∷ []) y) s.cause;
+          cause = cause-more (fewest g) c.outside (c.outside.runs ++ r ∷ []) c.outside.stored c.outside.applied (write_for s.op s.version) p.cause (λ x y. Mem-left x c.outside.runs (r ∷ []) y) s.cause;
         }))
         (f.reports p m);
     apart = f.apart;
@@ -173,7 +173,7 @@ module _ (g : Config) (past : Past) (c : Core) (f : CoreFacts g past c) (r : Ran
             version = s.version;
             dealt = s.dealt;
             settled = s.settled;
-            cause = cause-more g.max c.outside (c.outside.runs ++ r ∷ []) new.stored new.applied (write_for s.op s.version) p.cause (λ x y. Mem-left x c.outside.runs (r ∷ []) y) s.cause;
+            cause = cause-more (fewest g) c.outside (c.outside.runs ++ r ∷ []) new.stored new.applied (write_for s.op s.version) p.cause (λ x y. Mem-left x c.outside.runs (r ∷ []) y) s.cause;
           }))
           (f.reports p m);
       apart = f.apart;

@@ -12,7 +12,7 @@ use Rattle.relay_results.specs.declared.cause.Cause.{Cause}
 use Rattle.relay_results.specs.declared.cause.Cause.TheVariants as cause
 use Rattle.relay_delivery.specs.Causes.{carries, is_try, CarriedAt, IsAnswered, IsTrueOf}
 use Rattle.relay_results.proofs.Same.{same_write-true}
-use Rattle.relay_delivery.specs.Machine.{Config, Core, Held, write_of, place_of, launched_at, after_launch, send, IsEligible, MaySend}
+use Rattle.relay_delivery.specs.Machine.{fewest, Config, Core, Held, write_of, place_of, launched_at, after_launch, send, IsEligible, MaySend}
 use Rattle.relay_results.proofs.Lists.{true_or_false, equal, equal_test, at-left, at-last, at-cases, at-Mem, at-map, map-at, Mem-map, map-Mem, count-push, distinct_places, some_same}
 use Rattle.relay_delivery.proofs.Facts.{Past, IsOfOne, IsSent, IsFlying, HeldFact, RunFact, IndexFact, AreRising, CoreFacts, is_held_as}
 use Rattle.relay_delivery.proofs.Dealt.{of_held, carried_at, carries_at, carries_its, sent-push_cases}
@@ -302,7 +302,7 @@ module _ (g : Config) (past : Past) (c : Core) (f : CoreFacts g past c) (chosen 
               let k = Mem-map (after_launch (length requests) chosen) h c.held mh in
               let v = ap (λ (x : Held). x.version) k.2 ∙ launched_version (length requests) k.0 (place_of k.0.version chosen) in
               s.settled k.0 k.1 (sym v ∙ e);
-          cause = cause-sent g.max (write_for s.op s.version) p.cause (carries_none (write_for s.op s.version) (λ h mh v. s.settled h (may.eligible h mh).is_held v)) s.cause;
+          cause = cause-sent (fewest g) (write_for s.op s.version) p.cause (carries_none (write_for s.op s.version) (λ h mh v. s.settled h (may.eligible h mh).is_held v)) s.cause;
         }))
         (f.reports p m);
     apart = λ o. let e = count-sent o (length requests) chosen c.held in let a = f.apart o in omega arith;

@@ -202,16 +202,16 @@ module _ (g : Config) (lane_of : Document → ℕ) (past : ℕ → Past) (s : To
 
 -- ---- a request is answered
 
-module _ (g : Config) (lane_of : Document → ℕ) (past : ℕ → Past) (s : Together) (f : TogetherFacts g lane_of past s) (i : ℕ) (a : Answer) (from : Origin) (origin : slice_get s.origins i ≡ Some from) where
+module _ (g : Config) (lane_of : Document → ℕ) (past : ℕ → Past) (s : Together) (f : TogetherFacts g lane_of past s) (i : ℕ) (a : Answer) (old : ℕ → Bool) (from : Origin) (origin : slice_get s.origins i ≡ Some from) where
   after_answer : Together
-  after_answer = act g lane_of (AnswersAt i a from) s
+  after_answer = act g lane_of (AnswersAt i a old from) s
 
   answered_requests : (m : ℕ) (b : Bool) → (m == from.lane) ≡ b
-      → (if b then step g (Answers from.number a) (s.lanes.lane from.lane) else s.lanes.lane m).outside.requests ≡ (if b then update from.number (with_answer a) (requests_at s m) else requests_at s m)
+      → (if b then step g (Answers from.number a old) (s.lanes.lane from.lane) else s.lanes.lane m).outside.requests ≡ (if b then update from.number (with_answer a) (requests_at s m) else requests_at s m)
   answered_requests m true e = ap (λ n. update from.number (with_answer a) (requests_at s n)) (sym (equal m from.lane e))
   answered_requests m false e = refl
 
-  answered_runs : (m : ℕ) (b : Bool) → (m == from.lane) ≡ b → (if b then step g (Answers from.number a) (s.lanes.lane from.lane) else s.lanes.lane m).outside.runs ≡ runs_at s m
+  answered_runs : (m : ℕ) (b : Bool) → (m == from.lane) ≡ b → (if b then step g (Answers from.number a old) (s.lanes.lane from.lane) else s.lanes.lane m).outside.runs ≡ runs_at s m
   answered_runs m true e = ap (runs_at s) (sym (equal m from.lane e))
   answered_runs m false e = refl
 
@@ -276,7 +276,7 @@ module _ (g : Config) (lane_of : Document → ℕ) (past : ℕ → Past) (s : To
       let n = ap one_if now in
       omega (arith, u, b, n, old)
 
-  answer_keeps_all : LanesFacts g lane_of past (move g lane_of (Steps from.lane (Answers from.number a)) s.lanes) → TogetherFacts g lane_of past after_answer
+  answer_keeps_all : LanesFacts g lane_of past (move g lane_of (Steps from.lane (Answers from.number a old)) s.lanes) → TogetherFacts g lane_of past after_answer
   unfolding after_answer
   answer_keeps_all facts = record {
     lanes = facts;
@@ -363,7 +363,7 @@ act_keeps g lane_of past s f (Plain m) may =
     plain_keeps g lane_of past s f w (move_keeps g lane_of past s.lanes f.lanes m may.1) (λ l. ap (λ (o : Outside). o.requests) (plain_outside g lane_of m may.0 s.lanes l)) (λ l. ap (λ (o : Outside). o.runs) (plain_outside g lane_of m may.0 s.lanes l))
 act_keeps g lane_of past s f (SendsFrom l chosen) may = send_keeps_all g lane_of past s f l chosen may (move_keeps g lane_of past s.lanes f.lanes (Steps l (Sends chosen)) (tt, may))
 act_keeps g lane_of past s f (RunsAt i place outcome from) may = run_keeps_all g lane_of past s f i place outcome from may.0 may.1 (move_keeps g lane_of past s.lanes f.lanes (Steps from.lane (Runs (run_at from.number place outcome))) (tt, may.1))
-act_keeps g lane_of past s f (AnswersAt i a from) may = answer_keeps_all g lane_of past s f i a from may.0 (move_keeps g lane_of past s.lanes f.lanes (Steps from.lane (Answers from.number a)) (tt, may.1))
+act_keeps g lane_of past s f (AnswersAt i a old from) may = answer_keeps_all g lane_of past s f i a old from may.0 (move_keeps g lane_of past s.lanes f.lanes (Steps from.lane (Answers from.number a old)) (tt, may.1))
 
 pub start_shared : (g : Config) (lane_of : Document → ℕ) (past : ℕ → Past) → ((l : ℕ) (x : Write) → (past l).writes x → ⊥) → (stored : Document → Option ℕ) (s : Together)
     → IsFreshTogether stored s → ((l : ℕ) (k : Document) (u : ℕ) → stored k ≡ Some u → (past l).versions u) → TogetherFacts g lane_of past s
@@ -499,8 +499,8 @@ module _ (g : Config) (lane_of : Document → ℕ) (past : ℕ → Past) (s : To
   honest_there i from ws (outside.Whole status reason) origin h = h
   honest_there i from ws (outside.Lost why) origin h = h
 
-  may_answer_there : (i : ℕ) (a : Answer) (from : Origin) → slice_get s.origins i ≡ Some from → MayAnswer (outside_of lane_of s) i a → MayAct g (AnswersAt i a from) s
-  may_answer_there i a from origin may =
+  may_answer_there : (i : ℕ) (a : Answer) (old : ℕ → Bool) (from : Origin) → slice_get s.origins i ≡ Some from → MayAnswer (outside_of lane_of s) i a → MayAct g (AnswersAt i a old from) s
+  may_answer_there i a old from origin may =
       let p = f.same i from origin in
       let eq : p.request ≡ may.request = some_same p.request may.request (sym p.here ∙ may.sent) in (
         origin,

@@ -166,7 +166,7 @@ steps_continue g [] c may = record { events = []; may = tt; reached = refl }
 steps_continue g (Takes o ∷ ss) c may = steps_continue g ss (step g (Takes o) c) may.1
 steps_continue g (Sends chosen ∷ ss) c may = let r = steps_continue g ss (step g (Sends chosen) c) may.1 in record { events = outside.Sends (map write_of chosen) ∷ r.events; may = (tt, r.may); reached = r.reached }
 steps_continue g (Runs x ∷ ss) c may = let r = steps_continue g ss (step g (Runs x) c) may.1 in record { events = outside.Runs x ∷ r.events; may = (may.0, r.may); reached = r.reached }
-steps_continue g (Answers number a ∷ ss) c may = let r = steps_continue g ss (step g (Answers number a) c) may.1 in record { events = outside.Answers number a ∷ r.events; may = (may.0, r.may); reached = r.reached }
+steps_continue g (Answers number a old ∷ ss) c may = let r = steps_continue g ss (step g (Answers number a old) c) may.1 in record { events = outside.Answers number a ∷ r.events; may = (may.0, r.may); reached = r.reached }
 
 pub continues_always : ContinuesAlways
 continues_always g c r = (r.start.outside, r.fresh.new.opening, subst (λ d. Continues r.start.outside d.outside) r.reached (steps_continue g r.steps r.start r.may))

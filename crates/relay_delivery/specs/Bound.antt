@@ -7,7 +7,7 @@ abbrev pub IsDraining : Step → Type 0
 IsDraining (Takes o) = ⊥
 IsDraining (Sends chosen) = chosen ≢ []
 IsDraining (Runs r) = Unit {0}
-IsDraining (Answers number a) = Unit {0}
+IsDraining (Answers number a old) = Unit {0}
 
 abbrev pub AllDraining : List Step → Type 0
 AllDraining [] = Unit {0}

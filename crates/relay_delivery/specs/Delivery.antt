@@ -8,7 +8,7 @@ use Rattle.relay_results.specs.Documents.{Document, document_of, name_of, write_
 use Rattle.relay_results.specs.Outside.{Request, Outside, IsOpening, Continues}
 use Rattle.relay_delivery.specs.Attribution.{IsAttribution, IsInProducerOrder, is_from}
 use Rattle.relay_delivery.specs.Causes.{Terms, IsAssignment, IsTrueCause}
-use Rattle.relay_delivery.specs.Machine.{Config, version_at, Held, Place, Core, Report, Step, step, MayStep, IsFresh, CameAbout}
+use Rattle.relay_delivery.specs.Machine.{Config, fewest, version_at, Held, Place, Core, Report, Step, step, MayStep, IsFresh, CameAbout}
 
 -- ---- sound
 
@@ -17,7 +17,7 @@ abbrev pub taken_of : List Op → ℕ → List Op
 taken_of taken p = filter (is_from p) taken
 
 abbrev pub terms_of : Config → List Op → Terms
-terms_of g taken = record { max = g.max; deals = g.deals; taken = length taken }
+terms_of g taken = record { max = fewest g; deals = g.deals; taken = length taken }
 
 -- a report names an operation that was taken, and its cause is true
 pub record IsTrueReport (g : Config) (taken : List Op) (s : Outside) (versions : Op → Option ℕ) (r : Report) : Type 0 where

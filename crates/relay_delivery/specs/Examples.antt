@@ -1,6 +1,6 @@
 -- Worked schedules of the machine, for any document and any source: one that satisfies the promises, and those that
 -- show why each condition is needed.
-use Rattle.std.specs.Prelude.{◌≡◌, ℕ, List, [], ◌∷◌, Some, None}
+use Rattle.std.specs.Prelude.{◌≡◌, ℕ, List, [], ◌∷◌, Some, None, false}
 use Rattle.relay_action.specs.declared.key.DocKey.{DocKey}
 use Rattle.relay_action.specs.declared.action.Source.{Source}
 use Rattle.relay_action.specs.declared.action.Action.TheVariants.{Index}
@@ -20,7 +20,7 @@ use Rattle.relay_delivery.specs.Schedules.{op, accepted_of, nothing, end_of, ran
 
 -- versions from 1, three tries, and requests of at most two operations
 abbrev pub config : Config
-config = record { epoch = 0; first = 1; deals = 10; max = 3; cap = 2 }
+config = record { epoch = 0; first = 1; deals = 10; max = 3; age = None; cap = 2 }
 
 -- a lane that took nothing, with this outside
 abbrev pub begun : Outside → Core
@@ -36,10 +36,10 @@ lost_then_conflict o =
     Takes o
     ∷ Sends (waiting o 1 0 ∷ [])
     ∷ Runs (ran 0 0 201)
-    ∷ Answers 0 (Lost Closed)
+    ∷ Answers 0 (Lost Closed) (λ v. false)
     ∷ Sends (waiting o 1 1 ∷ [])
     ∷ Runs (failed_run 1 0 409 conflict)
-    ∷ Answers 1 (Items (failed_entry (write_for o 1) 409 conflict ∷ []))
+    ∷ Answers 1 (Items (failed_entry (write_for o 1) 409 conflict ∷ [])) (λ v. false)
     ∷ []
 
 -- ---- a schedule that satisfies the promises
@@ -75,10 +75,10 @@ abbrev pub lost_and_stale : Op → List Step
 lost_and_stale o =
     Takes o
     ∷ Sends (waiting o 1 0 ∷ [])
-    ∷ Answers 0 (Lost Closed)
+    ∷ Answers 0 (Lost Closed) (λ v. false)
     ∷ Sends (waiting o 1 1 ∷ [])
     ∷ Runs (failed_run 1 0 409 conflict)
-    ∷ Answers 1 (Items (failed_entry (write_for o 1) 409 conflict ∷ []))
+    ∷ Answers 1 (Items (failed_entry (write_for o 1) 409 conflict ∷ [])) (λ v. false)
     ∷ []
 
 -- Stored versions must be below the first one assigned: from an opening in which one is not, an operation is lost.
@@ -102,11 +102,11 @@ both_fly o p = send (waiting p 2 0 ∷ []) (steps_of config (first_sent o p) (be
 abbrev pub second_applied : Op → Op → List Step
 second_applied o p =
     Runs (ran 1 0 201)
-    ∷ Answers 1 (Items (entry (write_for p 2) 201 ∷ []))
-    ∷ Answers 0 (Lost Closed)
+    ∷ Answers 1 (Items (entry (write_for p 2) 201 ∷ [])) (λ v. false)
+    ∷ Answers 0 (Lost Closed) (λ v. false)
     ∷ Sends (waiting o 1 1 ∷ [])
     ∷ Runs (failed_run 2 0 409 conflict)
-    ∷ Answers 2 (Items (failed_entry (write_for o 1) 409 conflict ∷ []))
+    ∷ Answers 2 (Items (failed_entry (write_for o 1) 409 conflict ∷ [])) (λ v. false)
     ∷ []
 
 -- An operation must wait for the earlier ones of its document: if two are in flight at once, the first is lost.

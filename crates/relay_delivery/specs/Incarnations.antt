@@ -136,8 +136,8 @@ pub record HappensInLanes (g : Config) (lane_of : Document → ℕ) (s : Togethe
   pub origin : (i : ℕ) (q : Request) → slice_get s.sent i ≡ Some q → (from : Origin) × (slice_get s.origins i ≡ Some from)
   pub runs : (i place : ℕ) (o : RunOutcome) (from : Origin) → slice_get s.origins i ≡ Some from →
       MayRun (outside_of lane_of s) (run_at i place o) → MayAct g (RunsAt i place o from) s
-  pub answers : (i : ℕ) (a : Answer) (from : Origin) → slice_get s.origins i ≡ Some from →
-      MayAnswer (outside_of lane_of s) i a → MayAct g (AnswersAt i a from) s
+  pub answers : (i : ℕ) (a : Answer) (old : ℕ → Bool) (from : Origin) → slice_get s.origins i ≡ Some from →
+      MayAnswer (outside_of lane_of s) i a → MayAct g (AnswersAt i a old from) s
 
 abbrev pub TogetherMay : Type 0
 TogetherMay =
@@ -172,7 +172,7 @@ abbrev pub RunsNone : Act → Type 0
 RunsNone (Plain m) = Unit {0}
 RunsNone (SendsFrom l chosen) = Unit {0}
 RunsNone (RunsAt request place o from) = ⊥
-RunsNone (AnswersAt request a from) = Unit {0}
+RunsNone (AnswersAt request a old from) = Unit {0}
 
 abbrev pub ActsKeepNames : Type 0
 ActsKeepNames =

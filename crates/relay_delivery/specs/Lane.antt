@@ -9,15 +9,17 @@ use Rattle.relay_results.specs.Numbers.{from_one, from_zero}
 use Rattle.relay_results.specs.Documents.{Document, document_of, same_document}
 use Rattle.relay_results.specs.Outside.{Answer, Unanswered, Request, Ran, Outside, Sends, Runs, Answers, IsOpening, MayRun, MayAnswer, after}
 use Rattle.relay_results.specs.Fates.{Fate, Flies, Applied, Already, Retried, Halved, Reported}
-use Rattle.relay_delivery.specs.Machine.{Config, Core, Held, Place, Report, write_of, held_at, spent_if, after_launch, back_to_wait, with_cap, KeepsCaps, fate_of, reports_from, how_many, is_applied_fate, is_already_fate, IsFresh, CameAboutFrom}
+use Rattle.relay_delivery.specs.Machine.{Config, Core, Held, Place, Report, write_of, held_at, spent_if, place_of, tries_for, after_launch, back_to_wait, with_cap, KeepsCaps, fate_of, reports_from, how_many, is_applied_fate, is_already_fate, IsFresh, CameAboutFrom}
 use Rattle.relay_delivery.specs.Delivery.{HasDistinctNames, IsSound, IsComplete, applied_ops, IsDealtWrite}
 use Rattle.relay_delivery.specs.Bound.{tries_left}
 
--- a held operation, the length of its lines, the clock when it was taken, and the first tick at which it may be sent
+-- a held operation, the length of its lines, the clock when it was taken, the clock when it was first sent, or taken if
+-- it was not, and the first tick at which it may be sent
 pub record Entry : Type 0 where
   pub held : Held
   pub bytes : ℕ
   pub taken_at : ℕ
+  pub since : ℕ
   pub due : ℕ
 
 -- a request in flight, counted from 0, and its writes
@@ -44,7 +46,7 @@ held_of es = map (λ (e : Entry). e.held) es
 -- ---- take
 
 abbrev pub entry_at : State → Op → ℕ → Entry
-entry_at s o bytes = record { held = held_at s.config s.taken o; bytes = bytes; taken_at = s.clock; due = s.clock }
+entry_at s o bytes = record { held = held_at s.config s.taken o; bytes = bytes; taken_at = s.clock; since = s.clock; due = s.clock }
 
 abbrev pub entry_if : Bool → State → Op → ℕ → List Entry
 entry_if true s o bytes = entry_at s o bytes ∷ []
@@ -74,8 +76,13 @@ is_candidate s e = waits e.held.flies && (nat_le e.due s.clock && not (is_later 
 abbrev pub candidates : State → List Entry
 candidates s = filter (is_candidate s) s.held
 
-abbrev pub launched_entry : ℕ → List Held → Entry → Entry
-launched_entry request chosen e = record { held = after_launch request chosen e.held; bytes = e.bytes; taken_at = e.taken_at; due = e.due }
+-- the clock when an operation was first sent, if it is sent now, at a place
+abbrev pub since_sent : ℕ → Entry → Option ℕ → ℕ
+since_sent clock e None = e.since
+since_sent clock e (Some place) = if e.held.sends == 0 then clock else e.since
+
+abbrev pub launched_entry : ℕ → ℕ → List Held → Entry → Entry
+launched_entry clock request chosen e = record { held = after_launch request chosen e.held; bytes = e.bytes; taken_at = e.taken_at; since = since_sent clock e (place_of e.held.version chosen); due = e.due }
 
 abbrev pub writes_of_all : List Entry → List Write
 writes_of_all es = map write_of (held_of es)
@@ -84,7 +91,7 @@ writes_of_all es = map write_of (held_of es)
 abbrev pub after_request_of : State → List Entry → State
 after_request_of s chosen = record s {
   requests = s.requests + 1;
-  held = map (launched_entry s.requests (held_of chosen)) s.held;
+  held = map (launched_entry s.clock s.requests (held_of chosen)) s.held;
   flying = s.flying ++ record { request = s.requests; writes = writes_of_all chosen } ∷ [];
 }
 
@@ -98,13 +105,26 @@ abbrev pub kept_entry : ℕ → Fate → Entry → List Entry
 kept_entry clock Flies e = e ∷ []
 kept_entry clock Applied e = []
 kept_entry clock Already e = []
-kept_entry clock Retried e = record { held = back_to_wait e.held; bytes = e.bytes; taken_at = e.taken_at; due = backoff clock e.held.attempts } ∷ []
-kept_entry clock (Halved cap) e = record { held = with_cap cap e.held; bytes = e.bytes; taken_at = e.taken_at; due = clock } ∷ []
+kept_entry clock Retried e = record { held = back_to_wait e.held; bytes = e.bytes; taken_at = e.taken_at; since = e.since; due = backoff clock e.held.attempts } ∷ []
+kept_entry clock (Halved cap) e = record { held = with_cap cap e.held; bytes = e.bytes; taken_at = e.taken_at; since = e.since; due = clock } ∷ []
 kept_entry clock (Reported cause) e = []
 
-abbrev pub kept_entries : Config → ℕ → ℕ → List Write → Answer → List Entry → List Entry
-kept_entries g clock request ws a [] = []
-kept_entries g clock request ws a (e ∷ es) = kept_entry clock (fate_of g request ws a e.held e.held.flies) e ++ kept_entries g clock request ws a es
+abbrev pub kept_entries : (ℕ → ℕ) → ℕ → ℕ → List Write → Answer → List Entry → List Entry
+kept_entries allowed clock request ws a [] = []
+kept_entries allowed clock request ws a (e ∷ es) = kept_entry clock (fate_of allowed request ws a e.held e.held.flies) e ++ kept_entries allowed clock request ws a es
+
+-- at this clock, an operation that was first sent then has the age
+abbrev pub has_age : Option ℕ → ℕ → ℕ → Bool
+has_age None clock since = false
+has_age (Some age) clock since = nat_le (since + age) clock
+
+-- an operation of this version is held, and is old
+abbrev pub old_in : State → ℕ → Bool
+old_in s version = list_any (λ (e : Entry). (e.held.version == version) && has_age s.config.age s.clock e.since) s.held
+
+-- the tries that an operation has, by its version
+abbrev pub tries_in : State → ℕ → ℕ
+tries_in s = tries_for s.config (old_in s)
 
 abbrev pub is_other : ℕ → Flying → Bool
 is_other request f = not (f.request == request)
@@ -112,11 +132,11 @@ is_other request f = not (f.request == request)
 -- an answer to a request, counted from 0, that carried these writes
 abbrev pub after_settling : State → ℕ → List Write → Answer → State
 after_settling s request ws a = record s {
-  held = kept_entries s.config s.clock request ws a s.held;
+  held = kept_entries (tries_in s) s.clock request ws a s.held;
   flying = filter (is_other request) s.flying;
-  reports = s.reports ++ reports_from s.config request ws a (held_of s.held);
-  applied = s.applied + how_many is_applied_fate s.config request ws a (held_of s.held);
-  already = s.already + how_many is_already_fate s.config request ws a (held_of s.held);
+  reports = s.reports ++ reports_from (tries_in s) request ws a (held_of s.held);
+  applied = s.applied + how_many is_applied_fate (tries_in s) request ws a (held_of s.held);
+  already = s.already + how_many is_already_fate (tries_in s) request ws a (held_of s.held);
 }
 
 -- a request with this number, from 1, is in flight
@@ -252,6 +272,6 @@ abbrev pub EndedIsApplied : Type 0
 EndedIsApplied =
     (s : State) (number : ℕ) (a : Answer) (taken : List Op) (out : Outside) → is_flying number s ≡ true →
     MayAnswer out (from_zero number) a → Fits s taken out → (h : Held) → Mem h (held_of s.held) →
-    (fate_of s.config (from_zero number) (writes_at (from_zero number) s.flying) a h h.flies ≡ Applied)
-    ⊎ (fate_of s.config (from_zero number) (writes_at (from_zero number) s.flying) a h h.flies ≡ Already) →
+    (fate_of (tries_in s) (from_zero number) (writes_at (from_zero number) s.flying) a h h.flies ≡ Applied)
+    ⊎ (fate_of (tries_in s) (from_zero number) (writes_at (from_zero number) s.flying) a h h.flies ≡ Already) →
     Mem (write_of h) (out.applied (document_of h.op.key))

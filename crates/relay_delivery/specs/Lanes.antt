@@ -60,7 +60,7 @@ abbrev pub IsInner : Step → Type 0
 IsInner (Takes o) = ⊥
 IsInner (Sends chosen) = Unit {0}
 IsInner (Runs r) = Unit {0}
-IsInner (Answers number a) = Unit {0}
+IsInner (Answers number a old) = Unit {0}
 
 abbrev pub MayMove : Config → Move → Lanes → Type 0
 MayMove g (Puts o) w = MayPut g w o

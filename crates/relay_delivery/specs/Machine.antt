@@ -1,6 +1,6 @@
 -- A lane as delivery sees it, and the outside: what it took, what it holds and what it reported. It has no clock,
 -- batch or queue, and of all limits only the caps: the others only decide which of these steps are made, and when.
-use Rattle.std.specs.Prelude.{◌≡◌, ℕ, suc, ◌+◌, ◌-◌, ◌*◌, ◌^◌, ◌<◌, ◌≤◌, List, [], ◌∷◌, ◌++◌, Option, Some, None, option_map, slice_get, Bool, true, false, ◌==◌, nat_lt, if◌then◌else◌, map, length}
+use Rattle.std.specs.Prelude.{◌≡◌, ℕ, suc, ◌+◌, ◌-◌, ◌*◌, ◌^◌, ◌<◌, ◌≤◌, List, [], ◌∷◌, ◌++◌, Option, Some, None, is_some, option_map, slice_get, Bool, true, false, ◌==◌, nat_lt, min, if◌then◌else◌, map, length}
 use Rattle.relay_action.specs.Actions.{kind_of}
 use Rattle.relay_action.specs.declared.write.Write.{Write}
 use Rattle.relay_action.specs.declared.operation.Op.{Op}
@@ -16,21 +16,31 @@ use Rattle.relay_results.specs.Fates.{Fate, Flies, Applied, Already, Retried, Ha
 -- ---- what a lane has
 
 -- the epoch in which it runs, the first version that it assigns, how many it assigns, how many tries an operation
--- has, and the cap that it begins with
+-- has, the age, in ticks since its first send, from which on a single one is enough, if there is one, and the cap that
+-- it begins with
 pub record Config : Type 0 where
   pub epoch : ℕ
   pub first : ℕ
   pub deals : ℕ
   pub max : ℕ
+  pub age : Option ℕ
   pub cap : ℕ
 
 -- the first version of an epoch: a version is the epoch times 2^40, and a count from 1
 abbrev pub first_in : ℕ → ℕ
 first_in epoch = epoch * 2 ^ 40 + 1
 
--- a lane of this epoch, with this many versions to assign, and this many tries and this cap for each operation
-abbrev pub in_epoch : ℕ → ℕ → ℕ → ℕ → Config
-in_epoch epoch deals max cap = record { epoch = epoch; first = first_in epoch; deals = deals; max = max; cap = cap }
+-- a lane of this epoch, with this many versions to assign, and these tries, this age and this cap for each operation
+abbrev pub in_epoch : ℕ → ℕ → ℕ → Option ℕ → ℕ → Config
+in_epoch epoch deals max age cap = record { epoch = epoch; first = first_in epoch; deals = deals; max = max; age = age; cap = cap }
+
+-- the fewest tries after which an operation is given up
+abbrev pub fewest : Config → ℕ
+fewest g = if is_some g.age then min 1 g.max else g.max
+
+-- the tries that an operation has, by its version, where these are old
+abbrev pub tries_for : Config → (ℕ → Bool) → ℕ → ℕ
+tries_for g old version = if old version then fewest g else g.max
 
 -- the version assigned for a place of what is taken
 abbrev pub version_at : Config → ℕ → ℕ
@@ -146,12 +156,12 @@ send chosen c = record {
 
 -- ---- a request is answered
 
--- the fate of a held operation; one that is not in flight in this request is unchanged
-abbrev pub fate_of : Config → ℕ → List Write → Answer → Held → Option Place → Fate
-fate_of g number ws a h None = Flies
-fate_of g number ws a h (Some f) =
+-- the fate of a held operation that is allowed so many tries; one that is not in flight in this request is unchanged
+abbrev pub fate_of : (ℕ → ℕ) → ℕ → List Write → Answer → Held → Option Place → Fate
+fate_of allowed number ws a h None = Flies
+fate_of allowed number ws a h (Some f) =
     if f.request == number
-    then fate (record { version = h.version; sends = h.sends; attempts = h.attempts; max = g.max }) ws f.place (kind_of h.op.action) a
+    then fate (record { version = h.version; sends = h.sends; attempts = h.attempts; max = allowed h.version }) ws f.place (kind_of h.op.action) a
     else Flies
 
 -- the operation waits to be sent again
@@ -178,13 +188,13 @@ reported_one Retried h = []
 reported_one (Halved cap) h = []
 reported_one (Reported cause) h = report_on h.op cause ∷ []
 
-abbrev pub still_held : Config → ℕ → List Write → Answer → List Held → List Held
-still_held g number ws a [] = []
-still_held g number ws a (h ∷ hs) = kept_one (fate_of g number ws a h h.flies) h ++ still_held g number ws a hs
+abbrev pub still_held : (ℕ → ℕ) → ℕ → List Write → Answer → List Held → List Held
+still_held allowed number ws a [] = []
+still_held allowed number ws a (h ∷ hs) = kept_one (fate_of allowed number ws a h h.flies) h ++ still_held allowed number ws a hs
 
-abbrev pub reports_from : Config → ℕ → List Write → Answer → List Held → List Report
-reports_from g number ws a [] = []
-reports_from g number ws a (h ∷ hs) = reported_one (fate_of g number ws a h h.flies) h ++ reports_from g number ws a hs
+abbrev pub reports_from : (ℕ → ℕ) → ℕ → List Write → Answer → List Held → List Report
+reports_from allowed number ws a [] = []
+reports_from allowed number ws a (h ∷ hs) = reported_one (fate_of allowed number ws a h h.flies) h ++ reports_from allowed number ws a hs
 
 abbrev pub is_applied_fate : Fate → Bool
 is_applied_fate Flies = false
@@ -202,32 +212,33 @@ is_already_fate Retried = false
 is_already_fate (Halved cap) = false
 is_already_fate (Reported cause) = false
 
-abbrev pub how_many : (Fate → Bool) → Config → ℕ → List Write → Answer → List Held → ℕ
-how_many test g number ws a hs = count (λ (h : Held). test (fate_of g number ws a h h.flies)) hs
+abbrev pub how_many : (Fate → Bool) → (ℕ → ℕ) → ℕ → List Write → Answer → List Held → ℕ
+how_many test allowed number ws a hs = count (λ (h : Held). test (fate_of allowed number ws a h h.flies)) hs
 
 abbrev pub writes_or : Option Request → List Write
 writes_or None = []
 writes_or (Some q) = writes_of q
 
-abbrev pub settle : Config → ℕ → Answer → Core → Core
-settle g number a c = record {
+-- the request with this number is answered, when operations of these versions are old
+abbrev pub settle : Config → ℕ → Answer → (ℕ → Bool) → Core → Core
+settle g number a old c = record {
   taken = c.taken;
-  held = still_held g number (writes_or (slice_get c.outside.requests number)) a c.held;
-  reports = c.reports ++ reports_from g number (writes_or (slice_get c.outside.requests number)) a c.held;
-  applied = c.applied + how_many is_applied_fate g number (writes_or (slice_get c.outside.requests number)) a c.held;
-  already = c.already + how_many is_already_fate g number (writes_or (slice_get c.outside.requests number)) a c.held;
+  held = still_held (tries_for g old) number (writes_or (slice_get c.outside.requests number)) a c.held;
+  reports = c.reports ++ reports_from (tries_for g old) number (writes_or (slice_get c.outside.requests number)) a c.held;
+  applied = c.applied + how_many is_applied_fate (tries_for g old) number (writes_or (slice_get c.outside.requests number)) a c.held;
+  already = c.already + how_many is_already_fate (tries_for g old) number (writes_or (slice_get c.outside.requests number)) a c.held;
   outside = after (outside.Answers number a) c.outside;
 }
 
 -- ---- steps
 
 -- an operation is taken, held operations are sent as one request, an item of a request is run, or a request is
--- answered
+-- answered, when operations of these versions are old
 pub data Step : Type 0 where
   Takes : Op → Step
   Sends : List Held → Step
   Runs : Ran → Step
-  Answers : ℕ → Answer → Step
+  Answers : ℕ → Answer → (ℕ → Bool) → Step
 
 abbrev pub with_outside : Core → Outside → Core
 with_outside c s = record { taken = c.taken; held = c.held; reports = c.reports; applied = c.applied; already = c.already; outside = s }
@@ -236,7 +247,7 @@ abbrev pub step : Config → Step → Core → Core
 step g (Takes o) c = take g o c
 step g (Sends chosen) c = send chosen c
 step g (Runs r) c = with_outside c (after (outside.Runs r) c.outside)
-step g (Answers number a) c = settle g number a c
+step g (Answers number a old) c = settle g number a old c
 
 -- An operation may be taken at any time; any eligible operations may be sent; any item of any sent request may be run; and
 -- a request in flight may be given an honest answer.
@@ -244,7 +255,7 @@ abbrev pub MayStep : Step → Core → Type 0
 MayStep (Takes o) c = Unit {0}
 MayStep (Sends chosen) c = MaySend c chosen
 MayStep (Runs r) c = MayRun c.outside r
-MayStep (Answers number a) c = MayAnswer c.outside number a
+MayStep (Answers number a old) c = MayAnswer c.outside number a
 
 -- after a sequence of steps
 abbrev pub steps_of : Config → List Step → Core → Core

@@ -16,7 +16,7 @@ abbrev pub held_on : ℕ → Held → Held
 held_on n h = record { op = h.op; version = h.version; sends = h.sends; attempts = h.attempts; cap = h.cap; flies = place_on n h.flies }
 
 abbrev pub entry_on : ℕ → Entry → Entry
-entry_on n e = record { held = held_on n e.held; bytes = e.bytes; taken_at = e.taken_at; due = e.due }
+entry_on n e = record { held = held_on n e.held; bytes = e.bytes; taken_at = e.taken_at; since = e.since; due = e.due }
 
 abbrev pub flying_on : ℕ → Flying → Flying
 flying_on n f = record { request = n + f.request; writes = f.writes }

@@ -62,7 +62,7 @@ abbrev pub IsOfNow : List Incarnation → Act → Type 0
 IsOfNow ended (Plain m) = Unit {0}
 IsOfNow ended (SendsFrom l chosen) = Unit {0}
 IsOfNow ended (RunsAt request place outcome from) = Unit {0}
-IsOfNow ended (AnswersAt request a from) = (p : Incarnation) → Mem p ended → p.sent ≤ request
+IsOfNow ended (AnswersAt request a old from) = (p : Incarnation) → Mem p ended → p.sent ≤ request
 
 -- a new incarnation has a higher epoch, and assigns versions above all that the previous one may assign
 pub record IsAbove (old new : Config) : Type 0 where
@@ -71,7 +71,7 @@ pub record IsAbove (old new : Config) : Type 0 where
 
 -- this holds if epochs rise, and a lane assigns fewer than 2^40 versions
 abbrev pub EpochsAreAbove : Type 0
-EpochsAreAbove = (e f deals more max least cap other : ℕ) → e < f → deals < 2 ^ 40 → IsAbove (in_epoch e deals max cap) (in_epoch f more least other)
+EpochsAreAbove = (e f deals more max least cap other : ℕ) (age years : Option ℕ) → e < f → deals < 2 ^ 40 → IsAbove (in_epoch e deals max age cap) (in_epoch f more least years other)
 
 abbrev pub MayBe : Happening → Life → Type 0
 MayBe (Acts a) l = MayAct l.config a l.together × IsOfNow l.ended a

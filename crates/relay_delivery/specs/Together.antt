@@ -1,5 +1,5 @@
 -- Several lanes over one index: one list of requests and one log of runs, in the order in which they came about.
-use Rattle.std.specs.Prelude.{◌≡◌, ℕ, List, [], ◌∷◌, ◌++◌, Option, Some, slice_get, map, length}
+use Rattle.std.specs.Prelude.{◌≡◌, ℕ, List, [], ◌∷◌, ◌++◌, Option, Some, slice_get, Bool, map, length}
 use Rattle.relay_results.specs.Words.{update}
 use Rattle.relay_results.specs.Documents.{Document}
 use Rattle.relay_results.specs.Outside.{Answer, Unanswered, Request, writes_of, RunOutcome, Ran, Outside}
@@ -26,7 +26,7 @@ pub data Act : Type 0 where
   Plain : Move → Act
   SendsFrom : ℕ → List Held → Act
   RunsAt : ℕ → ℕ → RunOutcome → Origin → Act
-  AnswersAt : ℕ → Answer → Origin → Act
+  AnswersAt : ℕ → Answer → (ℕ → Bool) → Origin → Act
 
 abbrev pub run_at : ℕ → ℕ → RunOutcome → Ran
 run_at request place outcome = record { request = request; place = place; outcome = outcome }
@@ -45,8 +45,8 @@ act g lane_of (RunsAt request place outcome from) s = record {
   origins = s.origins;
   runs = s.runs ++ run_at request place outcome ∷ [];
 }
-act g lane_of (AnswersAt request a from) s = record {
-  lanes = move g lane_of (Steps from.lane (Answers from.number a)) s.lanes;
+act g lane_of (AnswersAt request a old from) s = record {
+  lanes = move g lane_of (Steps from.lane (Answers from.number a old)) s.lanes;
   sent = update request (λ q. record { writes = writes_of q; answer = a }) s.sent;
   origins = s.origins;
   runs = s.runs;
@@ -64,8 +64,8 @@ MayAct g (Plain m) s = IsPlain m × MayMove g m s.lanes
 MayAct g (SendsFrom l chosen) s = MayStep (Sends chosen) (s.lanes.lane l)
 MayAct g (RunsAt request place outcome from) s =
     (slice_get s.origins request ≡ Some from) × MayStep (Runs (run_at from.number place outcome)) (s.lanes.lane from.lane)
-MayAct g (AnswersAt request a from) s =
-    (slice_get s.origins request ≡ Some from) × MayStep (Answers from.number a) (s.lanes.lane from.lane)
+MayAct g (AnswersAt request a old from) s =
+    (slice_get s.origins request ≡ Some from) × MayStep (Answers from.number a old) (s.lanes.lane from.lane)
 
 abbrev pub acts_of : Config → (Document → ℕ) → List Act → Together → Together
 acts_of g lane_of [] s = s

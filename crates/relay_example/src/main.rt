@@ -25,6 +25,7 @@ const CONFIG: RelayConfig = RelayConfig {
         linger: 0,
     },
     attempts: 8,
+    give_up_after: None,
     in_flight: 1,
     epoch: 1,
     deal: 1_000_000,

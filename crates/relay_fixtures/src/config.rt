@@ -18,6 +18,7 @@ pub const CONFIG: RelayConfig = RelayConfig {
     max_held: 10,
     limits: LIMITS,
     attempts: 3,
+    give_up_after: None,
     in_flight: 1,
     epoch: 0,
     deal: DEAL_LIMIT,

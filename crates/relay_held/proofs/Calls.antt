@@ -125,23 +125,23 @@ none_taken v w n d key a c slots fewer unique no_name =
 
 -- ---- the first is sent
 
-pub record Launched (v w : Shelf) (n : ℕ) (d : Delays) (e : Entry) (number place : ℕ) (x : Kept) : Type 0 where
-  pub becomes : Becomes w.queues n (with_first x.key (launch_one number place) (merge_of v.queues))
+pub record Launched (v w : Shelf) (n : ℕ) (d : Delays) (e : Entry) (clock number place : ℕ) (x : Kept) : Type 0 where
+  pub becomes : Becomes w.queues n (with_first x.key (launch_one clock number place) (merge_of v.queues))
   pub held : IsHeld w n (record d { entries = without e.version d.entries })
 
-flies_now : (p : List Kept) (number place : ℕ) (y : Kept) → WaitsFirst (on_first (launch_one number place) p) y → ⊥
-flies_now [] number place y u = none_some y u.0
-flies_now (h ∷ hs) number place y u =
-    let is = some_same (launch_one number place h) y u.0 in
+flies_now : (p : List Kept) (clock number place : ℕ) (y : Kept) → WaitsFirst (on_first (launch_one clock number place) p) y → ⊥
+flies_now [] clock number place y u = none_some y u.0
+flies_now (h ∷ hs) clock number place y u =
+    let is = some_same (launch_one clock number place h) y u.0 in
     apart_tests (ap (λ (z : Kept). waits_here z.flies) is ∙ u.1)
 
-pub launched : (v w : Shelf) (n : ℕ) (d : Delays) (e : Entry) (number place : ℕ) → IsHeld v n d → (x : IsDueAt v d 0 e)
-    → Changes v.queues w.queues x.one.key (on_first (launch_one number place) (queue_of v.queues x.one.key)) → w.slots ≡ v.slots → keys_of w.queues ≡ keys_of v.queues → IsDistinct same_key (keys_of w.queues)
-    → Launched v w n d e number place x.one
-launched v w n d e number place a x c slots keys unique =
-    let b = with_becomes v.queues w.queues n x.one.key (launch_one number place) (launch_keeps number place) a.holding unique c in
+pub launched : (v w : Shelf) (n : ℕ) (d : Delays) (e : Entry) (clock number place : ℕ) → IsHeld v n d → (x : IsDueAt v d 0 e)
+    → Changes v.queues w.queues x.one.key (on_first (launch_one clock number place) (queue_of v.queues x.one.key)) → w.slots ≡ v.slots → keys_of w.queues ≡ keys_of v.queues → IsDistinct same_key (keys_of w.queues)
+    → Launched v w n d e clock number place x.one
+launched v w n d e clock number place a x c slots keys unique =
+    let b = with_becomes v.queues w.queues n x.one.key (launch_one clock number place) (launch_keeps clock number place) a.holding unique c in
     record {
       becomes = b;
       held = subst (λ m. IsHeld w n (record d { entries = without m d.entries })) (sym (ap (λ (y : Entry). y.version) x.entry))
-          (left v w n d x.one.key (on_first (launch_one number place) (queue_of v.queues x.one.key)) x.one a b.holding c slots keys x.waits (flies_now (queue_of v.queues x.one.key) number place));
+          (left v w n d x.one.key (on_first (launch_one clock number place) (queue_of v.queues x.one.key)) x.one a b.holding c slots keys x.waits (flies_now (queue_of v.queues x.one.key) clock number place));
     }

@@ -11,8 +11,8 @@ use Rattle.relay_held.specs.Operations.{launch_one, back_at, halved_at}
 use Rattle.relay_held.specs.Queues.{AllUnder, same_key, is_of, first_of, with_first, without_first, on_first, merge_of, queue_of, AllWait, OnlyFirstsFly, IsHolding, Changes}
 use Rattle.relay_held.proofs.Changing.{Keeps, push_merges, with_merges, without_merges, holds_of, first_is, filter_push, filter_with_same, filter_with_apart, filter_without_same, filter_without_apart}
 
-pub launch_keeps : (number place : ℕ) → Keeps (launch_one number place)
-launch_keeps number place = record { version = λ h. refl; key = λ h. refl }
+pub launch_keeps : (clock number place : ℕ) → Keeps (launch_one clock number place)
+launch_keeps clock number place = record { version = λ h. refl; key = λ h. refl }
 
 pub back_keeps : (due : ℕ) (w : Write) → Keeps (back_at due w)
 back_keeps due w = record { version = λ h. refl; key = λ h. refl }

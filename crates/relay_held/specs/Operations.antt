@@ -1,5 +1,5 @@
 -- What happens to a held operation.
-use Rattle.std.specs.Prelude.{ℕ, ◌+◌, ◌-◌, Option, Some, None, Bool, true, false, nat_lt, if◌then◌else◌}
+use Rattle.std.specs.Prelude.{ℕ, ◌+◌, ◌-◌, Option, Some, None, Bool, true, false, nat_lt, ◌==◌, if◌then◌else◌}
 use Rattle.relay_action.specs.declared.write.Write.{Write}
 use Rattle.relay_held.specs.declared.kept.Kept.{Kept}
 use Rattle.relay_held.specs.declared.kept.Spot.{Spot}
@@ -12,9 +12,9 @@ waits_here (Some s) = false
 abbrev pub more : ℕ → ℕ
 more n = if nat_lt n 4294967295 then n + 1 else n
 
--- the operation is sent
-abbrev pub launch_one : ℕ → ℕ → Kept → Kept
-launch_one number place h = record h { sends = more h.sends; attempts = more h.attempts; flies = Some (record { request = number; place = place }); write = None }
+-- the operation is sent; the clock is noted if it was not sent before
+abbrev pub launch_one : ℕ → ℕ → ℕ → Kept → Kept
+launch_one clock number place h = record h { since = (if h.sends == 0 then clock else h.since); sends = more h.sends; attempts = more h.attempts; flies = Some (record { request = number; place = place }); write = None }
 
 -- the operation waits again, with its write
 abbrev pub back_at : ℕ → Write → Kept → Kept

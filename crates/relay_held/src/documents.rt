@@ -75,12 +75,18 @@ fn name_in(queues: &Slab<Queue>, slot: usize) -> Option<OpName>
 }
 
 // Sends the first operation of the queue in a slot, and takes its write out.
-fn launch_in(queues: &mut Slab<Queue>, slot: usize, number: u64, place: u64) -> Option<Write>
+fn launch_in(
+    queues: &mut Slab<Queue>,
+    slot: usize,
+    clock: u64,
+    number: u64,
+    place: u64,
+) -> Option<Write>
     ensures sent { Sets queues.old queues.new slot
-        (on_first (launch_one number place) (queue_in queues.old slot)) }
+        (on_first (launch_one clock number place) (queue_in queues.old slot)) }
     ensures write { IfSome (slice_get (queue_in queues.old slot) 0) (λ h. result ≡ h.write) }
 {
-    queues.get_mut(slot)?.launch(number, place)
+    queues.get_mut(slot)?.launch(clock, number, place)
 }
 
 // Lets the first operation of the queue in a slot wait again.
@@ -353,11 +359,17 @@ impl Documents {
     }
 
     /// Sends the first operation of the document in a slot, and takes its write out.
-    pub(crate) fn launch(&mut self, slot: usize, number: u64, place: u64) -> Option<Write>
+    pub(crate) fn launch(
+        &mut self,
+        slot: usize,
+        clock: u64,
+        number: u64,
+        place: u64,
+    ) -> Option<Write>
         ensures sent { (k : DocKey) (h : Kept) → slice_get (queue_of self.old.queues k) 0 ≡ Some h
             → slot_of self.old.slots k ≡ slot
             → Changes self.old.queues self.new.queues k
-            (on_first (launch_one number place) (queue_of self.old.queues k)) }
+            (on_first (launch_one clock number place) (queue_of self.old.queues k)) }
         ensures write { (k : DocKey) (h : Kept) → slice_get (queue_of self.old.queues k) 0 ≡ Some h
             → slot_of self.old.slots k ≡ slot
             → result ≡ h.write }
@@ -365,7 +377,7 @@ impl Documents {
         ensures keys { keys_of self.new.queues ≡ keys_of self.old.queues }
         ensures unique { IsDistinct same_key (keys_of self.new.queues) }
     {
-        launch_in(&mut self.queues, slot, number, place)
+        launch_in(&mut self.queues, slot, clock, number, place)
     }
 
     /// Lets the first operation of a write's document wait again, and returns its entry, if there

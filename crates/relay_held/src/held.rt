@@ -158,20 +158,22 @@ impl Held {
         self.documents.candidate(entry.slot)
     }
 
-    /// Sends the first operation that may be sent, and takes its write out.
+    /// Sends the first operation that may be sent, and takes its write out. If it is sent for the first
+    /// time, the clock is noted with it.
     pub fn launch(&mut self, number: u64, place: u64) -> Option<Write>
         requires some { 0 < length (candidates_kept self.old.list self.old.clock) }
         ensures list { (h : Kept)
             → slice_get (candidates_kept self.old.list self.old.clock) 0 ≡ Some h
-            → self.new.list ≡ with_first h.key (launch_one number place) self.old.list }
+            → self.new.list ≡ with_first h.key (launch_one self.old.clock number place) self.old.list }
         ensures write { (h : Kept)
             → slice_get (candidates_kept self.old.list self.old.clock) 0 ≡ Some h
             → result ≡ h.write }
         ensures clock { self.new.clock ≡ self.old.clock }
         ensures looks { self.new.looks ≡ self.old.looks }
     {
+        let now = self.waiting.clock();
         match self.waiting.take_due() {
-            Some(entry) => self.documents.launch(entry.slot, number, place),
+            Some(entry) => self.documents.launch(entry.slot, now, number, place),
             None => unreachable!(),
         }
     }

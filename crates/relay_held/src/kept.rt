@@ -30,6 +30,8 @@ pub struct Kept {
     pub cap: u32,
     /// The clock when it was taken, in ticks.
     pub taken_at: u64,
+    /// The clock when it was first sent, in ticks; when it was taken, until then.
+    pub since: u64,
     /// The first tick at which it may be sent.
     pub due: u64,
     /// The number of requests that carried it.

@@ -29,10 +29,13 @@ impl Model for Queue {
     ghost view = { λ q. q.head ∷ q.behind.items };
 }
 
-fn send_one(one: &mut Kept, number: u64, place: u64) -> Option<Write>
-    ensures sent { one.new ≡ launch_one number place one.old }
+fn send_one(one: &mut Kept, clock: u64, number: u64, place: u64) -> Option<Write>
+    ensures sent { one.new ≡ launch_one clock number place one.old }
     ensures write { result ≡ one.old.write }
 {
+    if one.sends == 0 {
+        one.since = clock;
+    }
     one.sends = one.sends.saturating_add(1);
     one.attempts = one.attempts.saturating_add(1);
     one.flies = Some(Spot {
@@ -103,12 +106,12 @@ impl Queue {
         }
     }
 
-    /// Sends the first operation, and takes its write out.
-    pub(crate) fn launch(&mut self, number: u64, place: u64) -> Option<Write>
-        ensures sent { self.new ≡ on_first (launch_one number place) self.old }
+    /// Sends the first operation at this clock, and takes its write out.
+    pub(crate) fn launch(&mut self, clock: u64, number: u64, place: u64) -> Option<Write>
+        ensures sent { self.new ≡ on_first (launch_one clock number place) self.old }
         ensures write { IfSome (slice_get self.old 0) (λ h. result ≡ h.write) }
     {
-        send_one(&mut self.head, number, place)
+        send_one(&mut self.head, clock, number, place)
     }
 
     /// Lets the first operation wait again.

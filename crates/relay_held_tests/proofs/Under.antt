@@ -40,11 +40,11 @@ under_either (Err f) v old new x e a b under = subst (λ (s : Holding). AllUnder
 
 -- the first that may be sent is sent
 pub under_launch : (v number place looks : ℕ) (old mid new : Holding) (x : Candidate) → mid ≡ record old { looks = looks } → Some x ≡ option_map candidate_of (slice_get (candidates_kept old.list old.clock) 0)
-    → ((h : Kept) → slice_get (candidates_kept mid.list mid.clock) 0 ≡ Some h → new.list ≡ with_first h.key (launch_one number place) mid.list) → AllUnder v old.list → AllUnder v new.list
+    → ((h : Kept) → slice_get (candidates_kept mid.list mid.clock) 0 ≡ Some h → new.list ≡ with_first h.key (launch_one mid.clock number place) mid.list) → AllUnder v old.list → AllUnder v new.list
 under_launch v number place looks old mid new x same found sent under = by (slice_get (candidates_kept old.list old.clock) 0) refl found
   where
     by : (o : Option Kept) → slice_get (candidates_kept old.list old.clock) 0 ≡ o → Some x ≡ option_map candidate_of o → AllUnder v new.list
     by None is e = absurd (cc)
     by (Some h) is e =
         subst (AllUnder v) (sym (sent h (ap (λ (s : Holding). slice_get (candidates_kept s.list s.clock) 0) same ∙ is)))
-        (under_with v h.key (launch_one number place) mid.list (launch_keeps number place) (subst (λ (s : Holding). AllUnder v s.list) (sym same) under))
+        (under_with v h.key (launch_one mid.clock number place) mid.list (launch_keeps mid.clock number place) (subst (λ (s : Holding). AllUnder v s.list) (sym same) under))

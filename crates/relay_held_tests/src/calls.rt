@@ -46,8 +46,9 @@ fn sends(desk: &mut Desk, clock: u64, after: After) -> Result<u64, Fail> {
     Ok(version)
 }
 
-// A held operation: version, due tick, cap, sends, attempts, and its place in flight.
-type First = (u64, u64, u32, u32, u32, Option<Spot>);
+// A held operation: version, the clock of its first send, due tick, cap, sends, attempts, and its place
+// in flight.
+type First = (u64, u64, u64, u32, u32, u32, Option<Spot>);
 
 // The first operation of a document.
 fn first_of(alloc: Global, desk: &Desk, document: u64) -> Result<First, Fail> {
@@ -55,6 +56,7 @@ fn first_of(alloc: Global, desk: &Desk, document: u64) -> Result<First, Fail> {
     match desk.held.first(&key) {
         Some(one) => Ok((
             one.version,
+            one.since,
             one.due,
             one.cap,
             one.sends,
@@ -124,6 +126,7 @@ const SENT: &[Sending] = &[
         0,
         (
             1,
+            4,
             0,
             10,
             1,
@@ -135,8 +138,15 @@ const SENT: &[Sending] = &[
         ),
         1,
     ),
-    (5, After::Waits(9), 3, 1, (3, 9, 10, 1, 1, None), 4),
-    (9, After::WaitsUnder(9, 4), 3, 1, (3, 9, 4, 2, 1, None), 0),
+    (5, After::Waits(9), 3, 1, (3, 5, 9, 10, 1, 1, None), 4),
+    (
+        9,
+        After::WaitsUnder(9, 4),
+        3,
+        1,
+        (3, 5, 9, 4, 2, 1, None),
+        0,
+    ),
 ];
 
 // Whether each row is so, one after another.

@@ -47,6 +47,7 @@ fn kept_of(alloc: Global, document: u64, version: u64, due: u64) -> Option<Kept>
         bytes: 78,
         cap: 10,
         taken_at: due,
+        since: due,
         due,
         sends: 0,
         attempts: 0,

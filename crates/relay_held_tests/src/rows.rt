@@ -9,6 +9,7 @@ pub struct Row {
     pub document: u64,
     pub version: u64,
     pub taken_at: u64,
+    pub since: u64,
     pub due: u64,
     pub cap: u32,
     pub sends: u32,
@@ -25,6 +26,7 @@ impl Row {
             document,
             version,
             taken_at: due,
+            since: due,
             due,
             cap: 10,
             sends: 0,
@@ -34,9 +36,11 @@ impl Row {
         }
     }
 
-    /// It is sent.
-    pub fn sent(self, spot: Spot) -> Row {
+    /// It is sent at this tick.
+    pub fn sent(self, clock: u64, spot: Spot) -> Row {
+        let since = if self.sends == 0 { clock } else { self.since };
         Row {
+            since,
             sends: self.sends.saturating_add(1),
             attempts: self.attempts.saturating_add(1),
             flies: Some(spot),
@@ -68,6 +72,7 @@ impl Row {
     pub fn is(self, one: &Kept) -> bool {
         one.version == self.version
             && one.name.number == self.version
+            && one.since == self.since
             && one.due == self.due
             && one.cap == self.cap
             && one.sends == self.sends

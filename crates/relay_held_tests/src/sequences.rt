@@ -42,7 +42,7 @@ fn is_sent(game: &mut Game, document: u64, spot: Spot, write: Write) -> bool {
     if i >= game.rows.len() || game.rows[i].write != Some(write.version) {
         return false;
     }
-    game.rows[i] = game.rows[i].sent(spot);
+    game.rows[i] = game.rows[i].sent(game.clock, spot);
     game.flown.push(Flown { document, write }).is_ok()
 }
 

@@ -24,7 +24,7 @@ use Rattle.relay_results.proofs.Lists.{and_left, and_right, Mem-sub, filter_sub,
 use Rattle.relay_delivery.specs.Machine.{Config, write_of}
 use Rattle.relay_delivery.specs.Lane.{Entry, held_of, is_candidate, candidates, writes_of_all}
 use Rattle.relay_core.specs.declared.config.RelayConfig.{RelayConfig}
-use Rattle.relay_core.specs.Limits.{is_from_to, are_valid_limits, is_valid}
+use Rattle.relay_core.specs.Limits.{is_from_to, are_valid_limits, are_attempts, is_age, is_valid}
 use Rattle.relay_core.specs.Rule.{by_answer, chosen_entries, item_of, with_item}
 use Rattle.relay_core.specs.State.{State, gathering, next_entries, IsLane}
 use Rattle.relay_core.proofs.Tying.{chosen_sub}
@@ -50,7 +50,7 @@ valid_limits c t =
     let t5 = and_right (is_from_to 1 65536 c.max_held) _ t4 in
     let l = and_left (are_valid_limits c.limits) _ t5 in
     let t6 = and_right (are_valid_limits c.limits) _ t5 in
-    let t7 = and_right (is_from_to 1 32 c.attempts) _ t6 in
+    let t7 = and_right (is_age c.give_up_after) _ (and_right (are_attempts c.attempts) _ t6) in
     record {
       count = within 1 10000 c.limits.count (and_left _ _ l);
       bytes = (within 1024 16777216 c.limits.bytes (and_left _ _ (and_right (is_from_to 1 10000 c.limits.count) _ l))).1;

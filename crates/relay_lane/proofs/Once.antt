@@ -28,15 +28,15 @@ launched_op : (request : ℕ) (h : Held) (p : Option ℕ) → (launched_at reque
 launched_op request h None = refl
 launched_op request h (Some p) = refl
 
-launched_times : (request : ℕ) (chosen : List Held) (n : OpName) (es : List Entry) → count (is_held_as n) (held_of (map (launched_entry request chosen) es)) ≡ count (is_held_as n) (held_of es)
-launched_times request chosen n [] = refl
-launched_times request chosen n (e ∷ es) =
-    λ i. one_if (same_name n (name_of (launched_op request e.held (place_of e.held.version chosen) i))) + launched_times request chosen n es i
+launched_times : (clock request : ℕ) (chosen : List Held) (n : OpName) (es : List Entry) → count (is_held_as n) (held_of (map (launched_entry clock request chosen) es)) ≡ count (is_held_as n) (held_of es)
+launched_times clock request chosen n [] = refl
+launched_times clock request chosen n (e ∷ es) =
+    λ i. one_if (same_name n (name_of (launched_op request e.held (place_of e.held.version chosen) i))) + launched_times clock request chosen n es i
 
 asked_times : (s : State) (b : Option (List BatchItem)) (n : OpName) → times n (after_request s b) ≡ times n s
 asked_times s None n = refl
 asked_times s (Some items) n =
-    ap (λ k. k + count (is_success_as n) s.successes + count (is_report_as n) s.core.reports) (launched_times s.core.requests (held_of (next_entries s)) n s.core.held)
+    ap (λ k. k + count (is_success_as n) s.successes + count (is_report_as n) s.core.reports) (launched_times s.core.clock s.core.requests (held_of (next_entries s)) n s.core.held)
 
 answered_times : (s : State) (number : ℕ) (a : Answer) (n : OpName) → times n (after_answer_to s number a) ≡ times n s
 answered_times s number a n =

@@ -15,7 +15,8 @@ use Rattle.relay_results.proofs.Fates.{answers_end, retried_tries, says_as}
 use Rattle.relay_delivery.specs.Machine.{Config, Held, Place, place_of, launched_at, fate_of}
 use Rattle.relay_delivery.specs.Bound.{halvings}
 use Rattle.relay_delivery.proofs.Halving.{halvings-half}
-use Rattle.relay_delivery.specs.Lane.{Entry, held_of, candidates, launched_entry, kept_entry, kept_entries, writes_at}
+use Rattle.relay_delivery.proofs.Fates.{tries-most}
+use Rattle.relay_delivery.specs.Lane.{tries_in, old_in, Entry, held_of, candidates, launched_entry, kept_entry, kept_entries, writes_at}
 use Rattle.relay_core.specs.Rule.{item_of, gathering_after, closes, goes, batch_if}
 use Rattle.relay_core.specs.State.{State, IsLane, all_closed, gathering, next_batch, next_entries, after_request, after_answer_to}
 use Rattle.relay_core.proofs.Flights.{earlier_ones_settled}
@@ -49,7 +50,7 @@ sends_append most (x ∷ xs) ys = let r = sends_append most xs ys in omega (arit
 
 -- ---- a request
 
-module _ (most n : ℕ) (chosen : List Held) where
+module _ (most clock n : ℕ) (chosen : List Held) where
   one_sent : Entry → Option ℕ → ℕ
   one_sent e p = sends_of most (launched_at n e.held p).attempts (launched_at n e.held p).flies + halvings (launched_at n e.held p).cap
 
@@ -58,7 +59,7 @@ module _ (most n : ℕ) (chosen : List Held) where
   at_place e None = omega arith
   at_place e (Some p) = let l = no_more most e.held.attempts e.held.flies in omega (arith, l)
 
-  sent_at_most : (es : List Entry) → sends_among most (map (launched_entry n chosen) es) ≤ sends_among most es
+  sent_at_most : (es : List Entry) → sends_among most (map (launched_entry clock n chosen) es) ≤ sends_among most es
   unfolding one_sent
   sent_at_most [] = omega arith
   sent_at_most (e ∷ es) = let l = at_place e (place_of e.held.version chosen) in let r = sent_at_most es in omega (arith, l, r)
@@ -71,10 +72,10 @@ module _ (most n : ℕ) (chosen : List Held) where
       let l = one_less most e.held.attempts in
       omega (arith, k, w, l)
 
-  sent_less : (es : List Entry) (h : Entry) (p : ℕ) → Mem h es → h.held.flies ≡ None → place_of h.held.version chosen ≡ Some p → sends_among most (map (launched_entry n chosen) es) + 1 ≤ sends_among most es
+  sent_less : (es : List Entry) (h : Entry) (p : ℕ) → Mem h es → h.held.flies ≡ None → place_of h.held.version chosen ≡ Some p → sends_among most (map (launched_entry clock n chosen) es) + 1 ≤ sends_among most es
   unfolding one_sent
   sent_less [] h p m waits is = absurd m
-  sent_less (e ∷ es) h p m waits is = ⊎_elim {C = sends_among most (map (launched_entry n chosen) (e ∷ es)) + 1 ≤ sends_among most (e ∷ es)}
+  sent_less (e ∷ es) h p m waits is = ⊎_elim {C = sends_among most (map (launched_entry clock n chosen) (e ∷ es)) + 1 ≤ sends_among most (e ∷ es)}
       (λ same.
       let l = here_less e p (ap (λ (x : Entry). x.held.flies) (sym same) ∙ waits) (ap (λ (x : Entry). place_of x.held.version chosen) (sym same) ∙ is) in
       let r = sent_at_most es in omega (arith, l, r))
@@ -109,7 +110,7 @@ request_takes s items some =
     let k = ap length (items_of_operations s items some) ∙ length-map (next_entries s) item_of in
     let f = first_of (next_entries s) (omega (arith, n, k)) in
     let waits = (earlier_ones_settled s f.0 f.1).waits in
-    let less = sent_less s.core.config.max s.core.requests (held_of (next_entries s)) s.core.held f.0 0 (among s f.0 f.1) waits f.2 in
+    let less = sent_less s.core.config.max s.core.clock s.core.requests (held_of (next_entries s)) s.core.held f.0 0 (among s f.0 f.1) waits f.2 in
     let is = ap (λ b. sends_left (after_request s b)) some in
     omega (arith, less, is)
 
@@ -137,9 +138,9 @@ after_fate most clock Retried e ends tries falls = let k = sends_below most e.he
 after_fate most clock (Halved cap) e ends tries falls = let l = falls cap refl in let k = given_back most e.held.attempts in omega (arith, l, k)
 after_fate most clock (Reported cause) e ends tries falls = omega arith
 
-module _ (g : Config) (clock n : ℕ) (ws : List Write) (a : Answer) (answers : a ≢ Unanswered) where
+module _ (allowed : ℕ → ℕ) (most : ℕ) (fits : (version : ℕ) → allowed version ≤ most) (clock n : ℕ) (ws : List Write) (a : Answer) (answers : a ≢ Unanswered) where
   tries_at : Held → Tries
-  tries_at h = record { version = h.version; sends = h.sends; attempts = h.attempts; max = g.max }
+  tries_at h = record { version = h.version; sends = h.sends; attempts = h.attempts; max = allowed h.version }
 
   fate_at : Held → Place → Fate
   fate_at h p = fate (tries_at h) ws p.place (kind_of h.op.action) a
@@ -157,31 +158,31 @@ module _ (g : Config) (clock n : ℕ) (ws : List Write) (a : Answer) (answers : 
       subst (λ k. halvings k + 1 ≤ halvings e.held.cap) (sym s.2) (halvings-half (length ws) e.held.cap some le)
 
   by_number : (e : Entry) (p : Place) (b : Bool) → (p.request == n) ≡ b → Room e → e.held.flies ≡ Some p
-      → sends_among g.max (kept_entry clock (if b then fate_at e.held p else Flies) e) ≤ sends_of g.max e.held.attempts e.held.flies + halvings e.held.cap
+      → sends_among most (kept_entry clock (if b then fate_at e.held p else Flies) e) ≤ sends_of most e.held.attempts e.held.flies + halvings e.held.cap
   unfolding fate_at tries_at
   by_number e p true t room is =
-      let k = ap (sends_of g.max e.held.attempts) is in
-      let l = after_fate g.max clock (fate_at e.held p) e (answers_end (tries_at e.held) ws p.place (kind_of e.held.op.action) a answers)
-      (retried_tries (tries_at e.held) ws p.place (kind_of e.held.op.action) a) (falls_at e p room is (equal p.request n t)) in
+      let k = ap (sends_of most e.held.attempts) is in
+      let l = after_fate most clock (fate_at e.held p) e (answers_end (tries_at e.held) ws p.place (kind_of e.held.op.action) a answers)
+      (λ again. let lt = retried_tries (tries_at e.held) ws p.place (kind_of e.held.op.action) a again in let le = fits e.held.version in omega (arith, lt, le)) (falls_at e p room is (equal p.request n t)) in
       omega (arith, k, l)
   by_number e p false t room is = omega arith
 
-  by_flight : (e : Entry) (p : Option Place) → e.held.flies ≡ p → Room e → sends_among g.max (kept_entry clock (fate_of g n ws a e.held p) e) ≤ sends_of g.max e.held.attempts e.held.flies + halvings e.held.cap
+  by_flight : (e : Entry) (p : Option Place) → e.held.flies ≡ p → Room e → sends_among most (kept_entry clock (fate_of allowed n ws a e.held p) e) ≤ sends_of most e.held.attempts e.held.flies + halvings e.held.cap
   unfolding fate_at tries_at
   by_flight e None is room = omega arith
   by_flight e (Some p) is room = by_number e p (p.request == n) refl room is
 
-  all_at_most : (es : List Entry) → ((e : Entry) → Mem e es → Room e) → sends_among g.max (kept_entries g clock n ws a es) ≤ sends_among g.max es
+  all_at_most : (es : List Entry) → ((e : Entry) → Mem e es → Room e) → sends_among most (kept_entries allowed clock n ws a es) ≤ sends_among most es
   all_at_most [] room = omega arith
   all_at_most (e ∷ es) room =
-      let k = sends_append g.max (kept_entry clock (fate_of g n ws a e.held e.held.flies) e) (kept_entries g clock n ws a es) in
+      let k = sends_append most (kept_entry clock (fate_of allowed n ws a e.held e.held.flies) e) (kept_entries allowed clock n ws a es) in
       let l = by_flight e e.held.flies refl (room e (inl refl)) in
       let r = all_at_most es (λ x m. room x (inr m)) in
       omega (arith, k, l, r)
 
 pub left_answered : (s : State) (number : ℕ) (a : Answer) → IsLane s → a ≢ Unanswered → sends_left (after_answer_to s number a) ≤ sends_left s
 left_answered s number a l answers =
-    all_at_most s.core.config s.core.clock (from_zero number) (writes_at (from_zero number) s.core.flying) a answers s.core.held
+    all_at_most (tries_in s.core) s.core.config.max (tries-most s.core.config (old_in s.core)) s.core.clock (from_zero number) (writes_at (from_zero number) s.core.flying) a answers s.core.held
     (λ e m reason large p is here more.
     let ws = ap (λ k. length (writes_at k s.core.flying)) here in
     let le = ((l.in_order e m).flies p is).room (omega (arith, more, ws)) in
@@ -190,7 +191,7 @@ left_answered s number a l answers =
 -- what is lost is not halved
 pub left_lost : (s : State) (number : ℕ) (why : Loss) → sends_left (after_answer_to s number (Lost why)) ≤ sends_left s
 left_lost s number why =
-    all_at_most s.core.config s.core.clock (from_zero number) (writes_at (from_zero number) s.core.flying) (Lost why) (λ e. cc) s.core.held
+    all_at_most (tries_in s.core) s.core.config.max (tries-most s.core.config (old_in s.core)) s.core.clock (from_zero number) (writes_at (from_zero number) s.core.flying) (Lost why) (λ e. cc) s.core.held
     (λ e m reason large. absurd (cc))
 
 pub fail_takes : (why : Loss) (n : ℕ) (s : State) (items : List BatchItem) → next_batch s ≡ Some items → sends_left (after_fail why n s) + 1 ≤ sends_left s
@@ -204,7 +205,7 @@ launched_version n e (Some p) = refl
 
 pub from_sent : (s : State) (items : List BatchItem) → next_batch s ≡ Some items → (d : Entry) → Mem d (after_send s).core.held → (e : Entry) × Mem e s.core.held × (d.held.version ≡ e.held.version)
 from_sent s items some d m =
-    let x = Mem-map (launched_entry s.core.requests (held_of (next_entries s))) d s.core.held (subst (λ b. Mem d (after_request s b).core.held) some m) in
+    let x = Mem-map (launched_entry s.core.clock s.core.requests (held_of (next_entries s))) d s.core.held (subst (λ b. Mem d (after_request s b).core.held) some m) in
     (x.0, x.1, ap (λ (y : Entry). y.held.version) x.2 ∙ launched_version s.core.requests x.0 (place_of x.0.held.version (held_of (next_entries s))))
 
 kept_version : (clock : ℕ) (x : Fate) (e d : Entry) → Mem d (kept_entry clock x e) → d.held.version ≡ e.held.version
@@ -215,16 +216,16 @@ kept_version clock Retried e d m = ap (λ (y : Entry). y.held.version) (Mem-one 
 kept_version clock (Halved cap) e d m = ap (λ (y : Entry). y.held.version) (Mem-one d _ m)
 kept_version clock (Reported cause) e d m = absurd m
 
-from_kept : (g : Config) (clock n : ℕ) (ws : List Write) (a : Answer) (es : List Entry) (d : Entry) → Mem d (kept_entries g clock n ws a es) → (e : Entry) × Mem e es × (d.held.version ≡ e.held.version)
-from_kept g clock n ws a [] d m = absurd m
-from_kept g clock n ws a (e ∷ es) d m = ⊎_elim {C = (x : Entry) × Mem x (e ∷ es) × (d.held.version ≡ x.held.version)}
-    (λ here. (e, inl refl, kept_version clock (fate_of g n ws a e.held e.held.flies) e d here))
-    (λ later. let r = from_kept g clock n ws a es d later in (r.0, inr r.1, r.2))
-    (Mem-cases d (kept_entry clock (fate_of g n ws a e.held e.held.flies) e) (kept_entries g clock n ws a es) m)
+from_kept : (allowed : ℕ → ℕ) (clock n : ℕ) (ws : List Write) (a : Answer) (es : List Entry) (d : Entry) → Mem d (kept_entries allowed clock n ws a es) → (e : Entry) × Mem e es × (d.held.version ≡ e.held.version)
+from_kept allowed clock n ws a [] d m = absurd m
+from_kept allowed clock n ws a (e ∷ es) d m = ⊎_elim {C = (x : Entry) × Mem x (e ∷ es) × (d.held.version ≡ x.held.version)}
+    (λ here. (e, inl refl, kept_version clock (fate_of allowed n ws a e.held e.held.flies) e d here))
+    (λ later. let r = from_kept allowed clock n ws a es d later in (r.0, inr r.1, r.2))
+    (Mem-cases d (kept_entry clock (fate_of allowed n ws a e.held e.held.flies) e) (kept_entries allowed clock n ws a es) m)
 
 pub from_answered : (s : State) (number : ℕ) (a : Answer) (d : Entry) → Mem d (after_answer_to s number a).core.held → (e : Entry) × Mem e s.core.held × (d.held.version ≡ e.held.version)
-from_answered s number a d m = from_kept s.core.config s.core.clock (from_zero number) (writes_at (from_zero number) s.core.flying) a s.core.held d m
+from_answered s number a d m = from_kept (tries_in s.core) s.core.clock (from_zero number) (writes_at (from_zero number) s.core.flying) a s.core.held d m
 
 -- if nothing is held, an answer leaves nothing
 pub none_left : (s : State) (number : ℕ) (a : Answer) → s.core.held ≡ [] → (after_answer_to s number a).core.held ≡ []
-none_left s number a none = ap (kept_entries s.core.config s.core.clock (from_zero number) (writes_at (from_zero number) s.core.flying) a) none
+none_left s number a none = ap (kept_entries (tries_in s.core) s.core.clock (from_zero number) (writes_at (from_zero number) s.core.flying) a) none

@@ -191,14 +191,14 @@ passed_pause n s t a b within e p = record { ticks = n; clock = ap (λ (x : Stat
 
 -- ---- how many
 
-pub sends_small : (s : State) → IsLane s → sends_left s ≤ 3014656
+pub sends_small : (s : State) → IsLane s → sends_left s ≤ 137439870976
 sends_small s l =
     let v = valid_facts s.config l.valid in
     let most = left_at_most s l in
     let few = v.tries.1 in
     let held = l.held in
     let limit = v.held in
-    let m = mul-le-mul_left (length s.core.held) (let k : s.config.attempts + 14 ≤ 46 = omega (arith, few) in k) in
+    let m = mul-le-mul_left (length s.core.held) (let k : s.config.attempts + 14 ≤ 2097166 = omega (arith, few) in k) in
     omega (arith, most, held, limit, m)
 
 pub most_sent : (s t : State) → IsLane s → t.core.requests + sends_left t ≤ s.core.requests + sends_left s → t.core.requests ≤ s.core.requests + length s.core.held * (s.config.attempts + 14)

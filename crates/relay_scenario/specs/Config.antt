@@ -12,16 +12,19 @@ abbrev pub all_fit : List ℕ → Bool
 all_fit [] = true
 all_fit (n ∷ ns) = nat_lt n (2 ^ 32) && all_fit ns
 
--- the config with these eleven numbers, in this order; all but the bytes and the number of versions have 32 bits
+-- the config with these eleven numbers, in this order; the attempts have a limit, and all but the bytes and the number
+-- of versions have 32 bits
 abbrev pub config_of : List ℕ → Option RelayConfig
 config_of (lanes ∷ producers ∷ capacity ∷ held ∷ count ∷ bytes ∷ linger ∷ attempts ∷ flying ∷ epoch ∷ deal ∷ []) =
-    if all_fit (lanes ∷ producers ∷ capacity ∷ held ∷ count ∷ linger ∷ attempts ∷ flying ∷ epoch ∷ []) then Some (record {
+    if nat_lt 32 attempts then None
+    else if all_fit (lanes ∷ producers ∷ capacity ∷ held ∷ count ∷ linger ∷ attempts ∷ flying ∷ epoch ∷ []) then Some (record {
       lanes = lanes;
       producers = producers;
       capacity = capacity;
       max_held = held;
       limits = record { count = count; bytes = bytes; linger = linger };
       attempts = attempts;
+      give_up_after = None;
       in_flight = flying;
       epoch = epoch;
       deal = deal;

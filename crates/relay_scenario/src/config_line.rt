@@ -9,6 +9,7 @@ use crate::numbers::numbers_of;
 use crate::words::cut;
 use relay_batch::Limits;
 use relay_core::RelayConfig;
+use relay_core::config::ATTEMPT_LIMIT;
 use std::alloc::Global;
 
 /// The config in a line `world LANES PRODUCERS CAPACITY HELD COUNT BYTES LINGER ATTEMPTS FLYING
@@ -63,21 +64,27 @@ fn config_of(numbers: &[u64]) -> Option<RelayConfig>
             flying,
             epoch,
             deal,
-        ] => Some(RelayConfig {
-            lanes: u32::try_from(*lanes).ok()?,
-            producers: u32::try_from(*producers).ok()?,
-            capacity: u32::try_from(*capacity).ok()?,
-            max_held: u32::try_from(*held).ok()?,
-            limits: Limits {
-                count: u32::try_from(*count).ok()?,
-                bytes: *bytes,
-                linger: u32::try_from(*linger).ok()?,
-            },
-            attempts: u32::try_from(*attempts).ok()?,
-            in_flight: u32::try_from(*flying).ok()?,
-            epoch: u32::try_from(*epoch).ok()?,
-            deal: *deal,
-        }),
+        ] => {
+            if *attempts > u64::from(ATTEMPT_LIMIT) {
+                return None;
+            }
+            Some(RelayConfig {
+                lanes: u32::try_from(*lanes).ok()?,
+                producers: u32::try_from(*producers).ok()?,
+                capacity: u32::try_from(*capacity).ok()?,
+                max_held: u32::try_from(*held).ok()?,
+                limits: Limits {
+                    count: u32::try_from(*count).ok()?,
+                    bytes: *bytes,
+                    linger: u32::try_from(*linger).ok()?,
+                },
+                attempts: u32::try_from(*attempts).ok()?,
+                give_up_after: None,
+                in_flight: u32::try_from(*flying).ok()?,
+                epoch: u32::try_from(*epoch).ok()?,
+                deal: *deal,
+            })
+        }
         _ => None,
     }
 }

@@ -19,7 +19,7 @@ use Rattle.relay_results.proofs.Same.{same_write-self}
 use Rattle.relay_results.proofs.Steps.{step_runs_item}
 use Rattle.relay_delivery.specs.Causes.{IsAnswered}
 use Rattle.relay_delivery.specs.Explained.{after_runs, AllMayRun, met, MayMeet, Explains}
-use Rattle.relay_delivery.specs.Lane.{State, held_of, writes_at, is_flying, FitsFrom}
+use Rattle.relay_delivery.specs.Lane.{State, tries_in, held_of, writes_at, is_flying, FitsFrom}
 use Rattle.relay_delivery.specs.Machine.{Config, Core, Held, CameAboutFrom, fate_of, write_of}
 use Rattle.relay_delivery.specs.Reach.{Call, Takes, Ticks, Sends, Answers, call, MayCall, AllMayCall, taken_by, taken_in}
 use Rattle.relay_delivery.proofs.Dealt.{with_answer}
@@ -108,29 +108,29 @@ later_as g taken more cs o p x explains k = record {
 }
 
 -- what is noted of one held operation: its request applied it, or an earlier one had
-record IsNotedOf (g : Config) (number : ℕ) (ws : List Write) (a : Answer) (x : Success) (h : Held) : Type 0 where
+record IsNotedOf (allowed : ℕ → ℕ) (number : ℕ) (ws : List Write) (a : Answer) (x : Success) (h : Held) : Type 0 where
   name : x.name ≡ name_of h.op
   version : x.version ≡ h.version
-  fate : ((fate_of g number ws a h h.flies ≡ Applied) × (x.status ≡ status_of ws a h.flies)) ⊎ ((fate_of g number ws a h h.flies ≡ Already) × (x.status ≡ None))
+  fate : ((fate_of allowed number ws a h h.flies ≡ Applied) × (x.status ≡ status_of ws a h.flies)) ⊎ ((fate_of allowed number ws a h h.flies ≡ Already) × (x.status ≡ None))
 
-noted_of : (g : Config) (number : ℕ) (ws : List Write) (a : Answer) (h : Held) (f : Fate) (x : Success) → fate_of g number ws a h h.flies ≡ f → Mem x (success_of f (status_of ws a h.flies) h) → IsNotedOf g number ws a x h
-noted_of g number ws a h Flies x is m = elim m [ ]
-noted_of g number ws a h Applied x is m =
+noted_of : (allowed : ℕ → ℕ) (number : ℕ) (ws : List Write) (a : Answer) (h : Held) (f : Fate) (x : Success) → fate_of allowed number ws a h h.flies ≡ f → Mem x (success_of f (status_of ws a h.flies) h) → IsNotedOf allowed number ws a x h
+noted_of allowed number ws a h Flies x is m = elim m [ ]
+noted_of allowed number ws a h Applied x is m =
     let e = Mem-one x (record { name = name_of h.op; version = h.version; status = status_of ws a h.flies }) m in
     record { name = ap (λ (z : Success). z.name) e; version = ap (λ (z : Success). z.version) e; fate = inl (is, ap (λ (z : Success). z.status) e) }
-noted_of g number ws a h Already x is m =
+noted_of allowed number ws a h Already x is m =
     let e = Mem-one x (record { name = name_of h.op; version = h.version; status = None }) m in
     record { name = ap (λ (z : Success). z.name) e; version = ap (λ (z : Success). z.version) e; fate = inr (is, ap (λ (z : Success). z.status) e) }
-noted_of g number ws a h Retried x is m = elim m [ ]
-noted_of g number ws a h (Halved cap) x is m = elim m [ ]
-noted_of g number ws a h (Reported cause) x is m = elim m [ ]
+noted_of allowed number ws a h Retried x is m = elim m [ ]
+noted_of allowed number ws a h (Halved cap) x is m = elim m [ ]
+noted_of allowed number ws a h (Reported cause) x is m = elim m [ ]
 
-noted_among : (g : Config) (number : ℕ) (ws : List Write) (a : Answer) (hs : List Held) (x : Success) → Mem x (successes_from g number ws a hs) → (h : Held) × Mem h hs × IsNotedOf g number ws a x h
-noted_among g number ws a [] x m = elim m [ ]
-noted_among g number ws a (h ∷ hs) x m = ⊎_elim
-    (λ y. (h, inl refl, noted_of g number ws a h (fate_of g number ws a h h.flies) x refl y))
-    (λ y. let r = noted_among g number ws a hs x y in (r.0, inr r.1, r.2))
-    (Mem-cases x (success_of (fate_of g number ws a h h.flies) (status_of ws a h.flies) h) (successes_from g number ws a hs) m)
+noted_among : (allowed : ℕ → ℕ) (number : ℕ) (ws : List Write) (a : Answer) (hs : List Held) (x : Success) → Mem x (successes_from allowed number ws a hs) → (h : Held) × Mem h hs × IsNotedOf allowed number ws a x h
+noted_among allowed number ws a [] x m = elim m [ ]
+noted_among allowed number ws a (h ∷ hs) x m = ⊎_elim
+    (λ y. (h, inl refl, noted_of allowed number ws a h (fate_of allowed number ws a h h.flies) x refl y))
+    (λ y. let r = noted_among allowed number ws a hs x y in (r.0, inr r.1, r.2))
+    (Mem-cases x (success_of (fate_of allowed number ws a h h.flies) (status_of ws a h.flies) h) (successes_from allowed number ws a hs) m)
 
 -- ---- the status
 
@@ -165,10 +165,11 @@ module _ (begin : Config → Core → Type 0) (past : Config → Past) (facts : 
   answered_now : (s : State) (taken : List Op) (o : Outside) (number : ℕ) (a : Answer) → is_flying number s ≡ true → MayAnswer o (from_zero number) a → FitsFrom begin s taken o → (x : Success) → Mem x (noted_by (Answers number a) s) → IsAnsweredAs s.config taken (met (Answers number a) o) x
   answered_now s taken o number a flies may f x m =
       let g = s.config in
+      let allowed = tries_in s in
       let n = from_zero number in
       let ws = writes_at n s.flying in
       let q : Request = record { writes = ws; answer = Unanswered } in
-      let found = noted_among g n ws a (held_of s.held) x m in
+      let found = noted_among allowed n ws a (held_of s.held) x m in
       let h = found.0 in
       let c = f.core in
       let is_in : Mem h c.held = subst (Mem h) f.is_of.held found.1 in
@@ -177,7 +178,7 @@ module _ (begin : Config → Core → Type 0) (past : Config → Past) (facts : 
       let same : may.request ≡ q = some_same may.request q (sym may.sent ∙ here) in
       let honest : IsHonest o.runs n ws a = subst (λ (z : Request). IsHonest o.runs n z.writes a) same may.honest in
       let of : IsOfTaken g taken x = record { op = h.op; place = fact.dealt.place; was_taken = subst (λ ops. slice_get ops fact.dealt.place ≡ Some h.op) f.took fact.dealt.stands; name = found.2.name; version = found.2.version ∙ fact.dealt.version } in
-      let answered : (w : IsHere g n ws a h) (e : Outcome) → HasEntry ws w.place a e → IsAnswered (met (Answers number a) o) (write_for h.op x.version) e = λ w e has.
+      let answered : (w : IsHere allowed n ws a h) (e : Outcome) → HasEntry ws w.place a e → IsAnswered (met (Answers number a) o) (write_for h.op x.version) e = λ w e has.
       let flying = fact.flying (record { request = n; place = w.place }) w.flies in
       let its : flying.request ≡ q = some_same flying.request q (sym flying.sent ∙ ap (λ (z : Outside). slice_get z.requests n) f.outside ∙ here) in
       subst (λ v. IsAnswered (met (Answers number a) o) (write_for h.op v) e) (sym found.2.version) (record {
@@ -193,7 +194,7 @@ module _ (begin : Config → Core → Type 0) (past : Config → Past) (facts : 
         says = has;
         ran = honest_entry o.runs n w.place ws a e honest has;
       }) in
-      let tries : Tries = record { version = h.version; sends = h.sends; attempts = h.attempts; max = g.max } in
+      let tries : Tries = record { version = h.version; sends = h.sends; attempts = h.attempts; max = allowed h.version } in
       ⊎_elim {C = IsAnsweredAs g taken (met (Answers number a) o) x}
       (λ y. ⊎_elim {C = IsAnsweredAs g taken (met (Answers number a) o) x}
       (λ w. let stays = w.stays in let e = y.0 in absurd (cc (e, stays)))
@@ -205,7 +206,7 @@ module _ (begin : Config → Core → Type 0) (past : Config → Past) (facts : 
         answered = answered w says.0 says.1;
         status = y.1 ∙ ap (status_of ws a) w.flies ∙ entry_status ws w.place a says.0 says.1 ∙ of_success (kind_of h.op.action) says.0.status (is_some says.0.error) says.2;
       })
-      (away_or_here g n ws a h))
+      (away_or_here allowed n ws a h))
       (λ y. ⊎_elim {C = IsAnsweredAs g taken (met (Answers number a) o) x}
       (λ w. let stays = w.stays in let e = y.0 in absurd (cc (e, stays)))
       (λ w.
@@ -216,7 +217,7 @@ module _ (begin : Config → Core → Type 0) (past : Config → Past) (facts : 
         answered = answered w says.0 says.1;
         status = y.1 ∙ of_conflict says.0.status says.2;
       })
-      (away_or_here g n ws a h))
+      (away_or_here allowed n ws a h))
       found.2.fate
 
   -- ---- calls one after another

@@ -18,7 +18,7 @@ use Rattle.relay_results.proofs.Lists.{count-append, count_some, Mem-left, Mem-o
 use Rattle.relay_results.proofs.Same.{same_name-self}
 use Rattle.relay_delivery.specs.Delivery.{HasDistinctNames}
 use Rattle.relay_delivery.specs.Explained.{Begins, Explains}
-use Rattle.relay_delivery.specs.Lane.{Entry, held_of, fresh_state}
+use Rattle.relay_delivery.specs.Lane.{Entry, tries_in, held_of, fresh_state}
 use Rattle.relay_delivery.specs.Lane as delivery
 use Rattle.relay_delivery.specs.Machine.{Config, Core, Held, Report, fate_of, first_in, IsFresh, CameAboutFrom}
 use Rattle.relay_delivery.specs.Reach.{Ticks}
@@ -81,12 +81,12 @@ success_head (Halved cap) status h x m = elim m [ ]
 success_head (Reported cause) status h x m = elim m [ ]
 
 -- a success that an answer adds is of an operation that is held, with its version
-success_from : (g : Config) (number : ℕ) (ws : List Write) (a : Answer) (hs : List Held) (x : Success) → Mem x (successes_from g number ws a hs) → (h : Held) × Mem h hs × (x.name ≡ name_of h.op) × (x.version ≡ h.version)
-success_from g number ws a [] x m = elim m [ ]
-success_from g number ws a (h ∷ hs) x m = ⊎_elim
-    (λ y. let e = success_head (fate_of g number ws a h h.flies) (status_of ws a h.flies) h x y in (h, inl refl, e.0, e.1))
-    (λ y. let r = success_from g number ws a hs x y in (r.0, inr r.1, r.2, r.3))
-    (Mem-cases x (success_of (fate_of g number ws a h h.flies) (status_of ws a h.flies) h) (successes_from g number ws a hs) m)
+success_from : (allowed : ℕ → ℕ) (number : ℕ) (ws : List Write) (a : Answer) (hs : List Held) (x : Success) → Mem x (successes_from allowed number ws a hs) → (h : Held) × Mem h hs × (x.name ≡ name_of h.op) × (x.version ≡ h.version)
+success_from allowed number ws a [] x m = elim m [ ]
+success_from allowed number ws a (h ∷ hs) x m = ⊎_elim
+    (λ y. let e = success_head (fate_of allowed number ws a h h.flies) (status_of ws a h.flies) h x y in (h, inl refl, e.0, e.1))
+    (λ y. let r = success_from allowed number ws a hs x y in (r.0, inr r.1, r.2, r.3))
+    (Mem-cases x (success_of (fate_of allowed number ws a h h.flies) (status_of ws a h.flies) h) (successes_from allowed number ws a hs) m)
 
 -- the entry of a held operation
 entry_of : (es : List Entry) (h : Held) → Mem h (held_of es) → (e : Entry) × Mem e es × (h ≡ e.held)
@@ -96,7 +96,7 @@ entry_of (e ∷ es) h (inr m) = let r = entry_of es h m in (r.0, inr r.1, r.2)
 
 new_are_of : (s : State) (number : ℕ) (a : Answer) (taken : List Op) → IsReached s taken → (x : Success) → Mem x (new_successes s number a) → IsOfTaken s.core.config taken x
 new_are_of s number a taken r x m =
-    let f = success_from s.core.config (from_zero number) (writes_of number s) a (held_of s.core.held) x m in
+    let f = success_from (tries_in s.core) (from_zero number) (writes_of number s) a (held_of s.core.held) x m in
     let e = entry_of s.core.held f.0 f.1 in
     let t = (reached_is_orderly s taken r).held e.0 e.1 in
     record {

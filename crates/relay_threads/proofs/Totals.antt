@@ -11,7 +11,7 @@ use Rattle.relay_results.specs.Outside.{Answer, Lost}
 use Rattle.relay_results.specs.Fates.{Fate, Flies, Applied, Already, Retried, Halved, Reported}
 use Rattle.relay_delivery.specs.Machine.{Config, spent_if, kept_one, still_held, reports_from, fate_of}
 use Rattle.relay_delivery.specs.Lane as delivery
-use Rattle.relay_delivery.specs.Lane.{Entry, held_of, entry_if, kept_entry, kept_entries, launched_entry, after_settling, writes_at}
+use Rattle.relay_delivery.specs.Lane.{tries_in, Entry, held_of, entry_if, kept_entry, kept_entries, launched_entry, after_settling, writes_at}
 use Rattle.relay_delivery.proofs.Fates.{totals-settled}
 use Rattle.std.proofs.lemmas.List.{length-map}
 use Rattle.relay_core.specs.State.{State, after_take, after_request, next_batch, next_entries, after_answer_to, oldest, bytes_of}
@@ -29,14 +29,14 @@ one_kept clock Retried e = refl
 one_kept clock (Halved cap) e = refl
 one_kept clock (Reported cause) e = refl
 
-all_kept : (g : Config) (clock number : ℕ) (ws : List Write) (a : Answer) (es : List Entry) → length (kept_entries g clock number ws a es) ≡ length (still_held g number ws a (held_of es))
-all_kept g clock number ws a [] = refl
-all_kept g clock number ws a (e ∷ es) =
-    let t = fate_of g number ws a e.held e.held.flies in
-    let x = length-append (kept_entry clock t e) (kept_entries g clock number ws a es) in
-    let y = length-append (kept_one t e.held) (still_held g number ws a (held_of es)) in
+all_kept : (allowed : ℕ → ℕ) (clock number : ℕ) (ws : List Write) (a : Answer) (es : List Entry) → length (kept_entries allowed clock number ws a es) ≡ length (still_held allowed number ws a (held_of es))
+all_kept allowed clock number ws a [] = refl
+all_kept allowed clock number ws a (e ∷ es) =
+    let t = fate_of allowed number ws a e.held e.held.flies in
+    let x = length-append (kept_entry clock t e) (kept_entries allowed clock number ws a es) in
+    let y = length-append (kept_one t e.held) (still_held allowed number ws a (held_of es)) in
     let one = one_kept clock t e in
-    let rest = all_kept g clock number ws a es in
+    let rest = all_kept allowed clock number ws a es in
     omega (arith, x, y, one, rest)
 
 abbrev core_totals : delivery.State → Type 0
@@ -44,16 +44,16 @@ core_totals s = length s.held + (s.applied + s.already) + length s.reports ≡ s
 
 settled_totals : (s : delivery.State) (number : ℕ) (ws : List Write) (a : Answer) → core_totals s → core_totals (after_settling s number ws a)
 settled_totals s number ws a t =
-    let all = totals-settled s.config number ws a (held_of s.held) in
-    let k = all_kept s.config s.clock number ws a s.held in
+    let all = totals-settled (tries_in s) number ws a (held_of s.held) in
+    let k = all_kept (tries_in s) s.clock number ws a s.held in
     let m = length-map s.held (λ (e : Entry). e.held) in
-    let r = length-append s.reports (reports_from s.config number ws a (held_of s.held)) in
+    let r = length-append s.reports (reports_from (tries_in s) number ws a (held_of s.held)) in
     omega (arith, t, all, k, m, r)
 
 asked_totals : (s : State) (b : Option (List BatchItem)) → HasTotals s → HasTotals (after_request s b)
 asked_totals s None t = t
 asked_totals s (Some items) t =
-    let m = length-map s.core.held (launched_entry s.core.requests (held_of (next_entries s))) in
+    let m = length-map s.core.held (launched_entry s.core.clock s.core.requests (held_of (next_entries s))) in
     omega (arith, t, m)
 
 answered_totals : (s : State) (number : ℕ) (a : Answer) → HasTotals s → HasTotals (after_answer_to s number a)

@@ -13,7 +13,7 @@ use Rattle.relay_delivery.specs.Causes.{IsAssignment, IsAnswered}
 use Rattle.relay_delivery.specs.Delivery.{HasDistinctNames, IsTrueReport, assigned_at}
 use Rattle.relay_delivery.specs.Explained.{Begins, Explains}
 use Rattle.relay_delivery.specs.Lane as delivery
-use Rattle.relay_delivery.specs.Lane.{held_of, writes_at, fresh_state}
+use Rattle.relay_delivery.specs.Lane.{tries_in, held_of, writes_at, fresh_state}
 use Rattle.relay_delivery.specs.Machine.{Config, Report, first_in, version_at}
 use Rattle.relay_delivery.specs.Reach.{Call, Takes, Ticks, Sends, Answers, call}
 use Rattle.relay_delivery.specs.Stating.{BeginsBeside, StatesVersions}
@@ -82,7 +82,7 @@ abbrev pub noted_by : Call → delivery.State → List Success
 noted_by (Takes o bytes) s = []
 noted_by (Ticks clock) s = []
 noted_by (Sends chosen) s = []
-noted_by (Answers number a) s = successes_from s.config (from_zero number) (writes_at (from_zero number) s.flying) a (held_of s.held)
+noted_by (Answers number a) s = successes_from (tries_in s) (from_zero number) (writes_at (from_zero number) s.flying) a (held_of s.held)
 
 -- what these calls note, one after another
 abbrev pub noted_in : List Call → delivery.State → List Success

@@ -1,5 +1,5 @@
 -- A reply, an answer to a whole request and a loss keep a world tied.
-use Rattle.std.proofs.Common.{◌≡◌, ℕ, ◌+◌, arith, List, Some, true, refl, sym, ap, ◌∙◌, subst, ⊎_elim}
+use Rattle.std.proofs.Common.{◌≡◌, ℕ, ◌+◌, arith, List, Some, Bool, true, refl, sym, ap, ◌∙◌, subst, ⊎_elim}
 use Rattle.std.specs.Prelude.{slice_get, option_and_then}
 use Rattle.relay_action.specs.declared.operation.Op.{Op}
 use Rattle.relay_results.specs.Words.{Mem, update}
@@ -32,8 +32,12 @@ module _ (w : World) (t : Together) (b : ℕ → ℕ) (i : IsTied w t b) (k : �
   abbrev from : Origin
   from = record { lane = s.lane; number = from_zero (b s.lane + s.number) }
 
+  -- what is old in its lane
+  abbrev old : ℕ → Bool
+  old = delivery.old_in (numbered_on (b s.lane) d.lane.core)
+
   abbrev u : Together
-  u = act g (lane_of w) (AnswersAt k a from) t
+  u = act g (lane_of w) (AnswersAt k a old from) t
 
   abbrev answered : Desk → Desk
   answered = answered_desk s.number a
@@ -72,16 +76,16 @@ module _ (w : World) (t : Together) (b : ℕ → ℕ) (i : IsTied w t b) (k : �
       let two = some_same same.request (record { writes = delivery.writes_at (from_zero s.number) d.lane.core.flying; answer = Unanswered }) (sym same.there ∙ there_is) in
       ap (λ (q : Request). q.answer) (one ∙ two)
 
-  may : MayAct g (AnswersAt k a from) t
-  may = (happens_in_lanes g (lane_of w) (past_of (opening_version w) (ended_of w)) t facts).answers k a from origin (record { request = request_of w s; sent = request_is; open_yet = unanswered; honest = honest })
+  may : MayAct g (AnswersAt k a old from) t
+  may = (happens_in_lanes g (lane_of w) (past_of (opening_version w) (ended_of w)) t facts).answers k a old from origin (record { request = request_of w s; sent = request_is; open_yet = unanswered; honest = honest })
 
   -- ---- the desk
 
-  desk_now : IsDeskOf w.config (b s.lane) (Some (answered d)) (t.lanes.queue s.lane) (step g (Answers from.number a) (t.lanes.lane s.lane))
+  desk_now : IsDeskOf w.config (b s.lane) (Some (answered d)) (t.lanes.queue s.lane) (step g (Answers from.number a old) (t.lanes.lane s.lane))
   desk_now = record {
     queue_is = desk_is.queue_is;
     taken = desk_is.taken;
-    lane = subst (λ x. delivery.IsOf (numbered_on (b s.lane) (delivery.after_answer_to d.lane.core s.number a)) (step x (Answers from.number a) (t.lanes.lane s.lane))) works.config
+    lane = subst (λ x. delivery.IsOf (numbered_on (b s.lane) (delivery.after_answer_to d.lane.core s.number a)) (step x (Answers from.number a old) (t.lanes.lane s.lane))) works.config
         (answer_on (b s.lane) d.lane.core (t.lanes.lane s.lane) s.number a flies desk_is.lane);
     works = λ x e. let one : answered d ≡ x = cc in subst (IsLaneOf w.config) one (record { config = works.config; senders = works.senders; next = works.next });
   }
@@ -91,7 +95,7 @@ module _ (w : World) (t : Together) (b : ℕ → ℕ) (i : IsTied w t b) (k : �
 
   lanes_now : AreLanes new u b
   lanes_now =
-      let c = step g (Answers from.number a) (t.lanes.lane s.lane) in
+      let c = step g (Answers from.number a old) (t.lanes.lane s.lane) in
       lanes_from new u b i.lanes.producers i.lanes.accepted
       (λ p. i.lanes.closed p ∙ sym (any_unmoved (has_closed p) answered s.lane w.desks (λ x. refl)))
       (desks_after w t b i.lanes s.lane d there answered u.lanes.queue u.lanes.lane
@@ -128,7 +132,7 @@ module _ (w : World) (t : Together) (b : ℕ → ℕ) (i : IsTied w t b) (k : �
 
   same_index : (m : ℕ) → SameIndex (u.lanes.lane m).outside (t.lanes.lane m).outside
   same_index m =
-      let c = step g (Answers from.number a) (t.lanes.lane s.lane) in
+      let c = step g (Answers from.number a old) (t.lanes.lane s.lane) in
       ⊎_elim {C = SameIndex (u.lanes.lane m).outside (t.lanes.lane m).outside}
       (λ e.
       subst (λ n. SameIndex (u.lanes.lane n).outside (t.lanes.lane n).outside) (sym e)
@@ -139,7 +143,7 @@ module _ (w : World) (t : Together) (b : ℕ → ℕ) (i : IsTied w t b) (k : �
   pub answer_tied : IsTied new u b
   answer_tied = record {
     few = i.few;
-    came_about = act_together (opening_version w) g (lane_of w) (ended_of w) t (AnswersAt k a from) i.came_about may (is_origin.of_now of_now).1;
+    came_about = act_together (opening_version w) g (lane_of w) (ended_of w) t (AnswersAt k a old from) i.came_about may (is_origin.of_now of_now).1;
     lanes = lanes_now;
     requests = requests_now;
     index = index_kept w (update s.lane answered w.desks) w.accepted sent_now t u i.index i.came_about same_index (takes_more w new t u b b i.lanes lanes_now more_none);

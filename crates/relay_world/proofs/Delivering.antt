@@ -10,7 +10,7 @@ use Rattle.relay_results.specs.Documents.{document_of, name_of}
 use Rattle.relay_results.proofs.Lists.{equal, equal_test, and_left, and_right, at-Mem, Mem-left, Mem-right}
 use Rattle.relay_delivery.specs.Attribution.{IsAttribution, IsInProducerOrder, is_in}
 use Rattle.relay_delivery.specs.Causes.{IsTrueCause}
-use Rattle.relay_delivery.specs.Machine.{Config, Report, first_in}
+use Rattle.relay_delivery.specs.Machine.{Config, Report, first_in, fewest}
 use Rattle.relay_delivery.specs.Delivery.{names_of, terms_of}
 use Rattle.relay_delivery.specs.Lane as delivery
 use Rattle.relay_delivery.specs.Stating as stating
@@ -77,7 +77,7 @@ module _ (w : World) (t : Together) (b : ℕ → ℕ) (i : IsTied w t b) where
   }
 
   terms_same : (l : ℕ) → terms_of g (t.lanes.lane l).taken ≡ terms_at w l
-  terms_same l = λ j. record { max = g.max; deals = g.deals; taken = ap length (i.lanes.taken l) j }
+  terms_same l = λ j. record { max = fewest g; deals = g.deals; taken = ap length (i.lanes.taken l) j }
 
   done_at : is_finished w ≡ true → (l : ℕ) (o : Option Desk) → desk_at w l ≡ o → (queue_of o ≡ []) × ((core_of g o).held ≡ [])
   done_at f l None e = (refl, refl)

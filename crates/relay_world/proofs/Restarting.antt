@@ -51,7 +51,7 @@ module _ (w : World) (t : Together) (b : ℕ → ℕ) (i : IsTied w t b) (epoch 
   came : CameAboutTogether (opening_version w) (config_of c) (lane_of w) (incarnations_of w) u
   came = subst (λ is. CameAboutTogether (opening_version w) (config_of c) (lane_of w) is u) (running_seen w t b i)
       (restart_together (opening_version w) g (config_of c) (lane_of w) (ended_of w) t i.came_about
-      (epochs_are_above w.config.epoch epoch w.config.deal w.config.deal w.config.attempts w.config.attempts w.config.limits.count w.config.limits.count up i.few))
+      (epochs_are_above w.config.epoch epoch w.config.deal w.config.deal w.config.attempts w.config.attempts w.config.limits.count w.config.limits.count w.config.give_up_after w.config.give_up_after up i.few))
 
   kept : Keeps w new
   kept = keeps_restart w epoch

@@ -4,7 +4,7 @@ use Rattle.std.specs.Prelude.{slice_get, nat_le, map, replicate}
 use Rattle.relay_action.specs.declared.operation.Op.{Op}
 use Rattle.relay_results.proofs.Lists.{and_left, and_right, and_both}
 use Rattle.relay_core.specs.declared.config.RelayConfig.{RelayConfig}
-use Rattle.relay_core.specs.Limits.{is_from_to, are_valid_limits, is_valid}
+use Rattle.relay_core.specs.Limits.{is_from_to, are_valid_limits, are_attempts, is_age, is_valid}
 use Rattle.relay_world.specs.State.{Desk, Past, World, fresh_desk}
 use Rattle.relay_world.specs.Changes.{in_new_epoch, after_restart}
 use Rattle.relay_world.specs.Memory.{WorksAs, ArePartsOf}
@@ -39,16 +39,18 @@ valid_in c epoch within v =
     let v4 = and_right (is_from_to 1 65536 c.capacity) _ v3 in
     let v5 = and_right (is_from_to 1 65536 c.max_held) _ v4 in
     let v6 = and_right (are_valid_limits c.limits) _ v5 in
-    let v7 = and_right (is_from_to 1 32 c.attempts) _ v6 in
-    let v8 = and_right (is_from_to 1 8 c.in_flight) _ v7 in
+    let v7 = and_right (are_attempts c.attempts) _ v6 in
+    let v8 = and_right (is_age c.give_up_after) _ v7 in
+    let v9 = and_right (is_from_to 1 8 c.in_flight) _ v8 in
     and_both (is_from_to 1 8 c.lanes) _ (and_left _ _ v)
     (and_both (is_from_to 1 256 c.producers) _ (and_left _ _ v2)
     (and_both (is_from_to 1 65536 c.capacity) _ (and_left _ _ v3)
     (and_both (is_from_to 1 65536 c.max_held) _ (and_left _ _ v4)
     (and_both (are_valid_limits c.limits) _ (and_left _ _ v5)
-    (and_both (is_from_to 1 32 c.attempts) _ (and_left _ _ v6)
-    (and_both (is_from_to 1 8 c.in_flight) _ (and_left _ _ v7)
-    (and_both (nat_le epoch 4194303) _ within (and_right (nat_le c.epoch 4194303) _ v8))))))))
+    (and_both (are_attempts c.attempts) _ (and_left _ _ v6)
+    (and_both (is_age c.give_up_after) _ (and_left _ _ v7)
+    (and_both (is_from_to 1 8 c.in_flight) _ (and_left _ _ v8)
+    (and_both (nat_le epoch 4194303) _ within (and_right (nat_le c.epoch 4194303) _ v9)))))))))
 
 -- what a restart makes of the parts, one by one
 pub restarts_so : (w : World) (epoch sent : ℕ) (c : RelayConfig) (desks : List Desk) (accepted taken : List (List Op)) (ended : List Past)

@@ -8,8 +8,9 @@ use Rattle.relay_index.specs.States as index
 use Rattle.relay_delivery.specs.Attribution.{IsAttribution, IsInProducerOrder, AreByEpoch, is_in}
 use Rattle.relay_delivery.specs.Incarnations.{accepted_over, accepted_in}
 use Rattle.relay_delivery.specs.Causes.{Terms, IsAssignment, IsTrueCause}
-use Rattle.relay_delivery.specs.Machine.{Report, first_in}
+use Rattle.relay_delivery.specs.Machine.{Report, first_in, fewest}
 use Rattle.relay_delivery.specs.Delivery.{names_of}
+use Rattle.relay_core.specs.State.{config_of}
 use Rattle.relay_world.specs.State.{Item, Sent, Past, World, opening_version, IsBelow, incarnations, incarnations_of, lane_of, taken_ops, accepted_from, applied_writes, names_at, before_at, reports, writes_of, is_closed, is_finished}
 
 -- ---- outside the lanes
@@ -47,7 +48,7 @@ outside_of w log = record {
 -- ---- true reports
 
 abbrev pub terms_at : World → ℕ → Terms
-terms_at w l = record { max = w.config.attempts; deals = w.config.deal; taken = length (taken_ops w l) }
+terms_at w l = record { max = fewest (config_of w.config); deals = w.config.deal; taken = length (taken_ops w l) }
 
 -- The version of the operation at a place of what a lane took: `deal` versions of the epoch are assigned in order,
 -- and then none.

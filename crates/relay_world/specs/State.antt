@@ -202,7 +202,7 @@ op_with w l version = op_among w.config.deal (incarnations w) l version
 -- an incarnation as delivery sees it; the config is the same in each, except for the epoch
 abbrev pub incarnation : RelayConfig → Past → Incarnation
 incarnation c p = record {
-  config = in_epoch p.epoch c.deal c.attempts c.limits.count;
+  config = in_epoch p.epoch c.deal c.attempts c.give_up_after c.limits.count;
   accepted = λ q. unwrap_or (slice_get p.accepted q) [];
   taken = λ l. unwrap_or (slice_get p.taken l) [];
   sent = p.sent;

@@ -1,6 +1,7 @@
 //! `relay run`.
 use crate::options::{
-    DurationOption, FlagOption, NO_COUNTER, NO_HOST, NumberOption, TO, TextOption, counter_of,
+    DurationOption, FlagOption, GIVE_UP_AFTER, NO_COUNTER, NO_HOST, NumberOption, Retries, TO,
+    TextOption, counter_of, read_retries,
 };
 use crate::report::{out_of_memory, usage};
 use clap::{Arg, ArgAction, ArgMatches, Command};
@@ -98,7 +99,9 @@ that is a pipe ends with the operation that arrives next.
 While the index is down, each request that cannot be sent is an attempt, and so is each that is not answered
 within --timeout. Between the attempts of an operation its lane pauses for 1, 2, 4, 8, 16, 32 and 64
 ticks of 100 ms: 12.7 s in all with the default of 8 attempts, and 166 s with 32, at most 64 ticks each, plus
-the time that connecting takes. Then it is reported. With --patience each attempt keeps trying to connect for
+the time that connecting takes. Then it is reported. With --give-up-after DURATION, in place of --attempts, an
+operation is sent again until so long has passed since it was first sent, and with --give-up-after never
+without end, while the inputs wait. With --patience each attempt keeps trying to connect for
 that long before it fails, so an index that is back by then costs only the attempt of what was in
 flight when it went down.
 
@@ -299,7 +302,8 @@ fn with_numbers<'a>(alloc: Global, command: Command<'a>) -> Result<Command<'a>, 
     for option in DURATIONS {
         command = command.arg(option.arg(alloc))?;
     }
-    Ok(command)
+    let give_up = GIVE_UP_AFTER.arg(alloc).conflicts_with(ATTEMPTS.name)?;
+    command.arg(give_up)
 }
 
 // The options for what is saved and shown.
@@ -351,12 +355,24 @@ fn durations_of<R: Eprint>(rt: &R, matches: &ArgMatches<'_>) -> Result<Durations
     })
 }
 
+// How often, and how long, an operation that fails is sent again.
+fn retries_of<R: Eprint>(rt: &R, matches: &ArgMatches<'_>) -> Result<Retries, Exit> {
+    match GIVE_UP_AFTER.get(matches) {
+        Some(word) => read_retries(rt, word),
+        None => Ok(Retries {
+            attempts: ATTEMPTS.get_u32(matches),
+            give_up_after: None,
+        }),
+    }
+}
+
 // The options as they were given, without the counter document.
 fn options_of(
     alloc: Global,
     matches: &ArgMatches<'_>,
     to: &str,
     durations: &Durations,
+    retries: Retries,
 ) -> Result<RunOptions, AllocError> {
     let mut files = Vec::new(alloc);
     for file in matches.get_strs(FILES).unwrap_or(&[]) {
@@ -375,7 +391,8 @@ fn options_of(
             bytes: BYTES.get(matches),
             linger: durations.linger,
         },
-        attempts: ATTEMPTS.get_u32(matches),
+        attempts: retries.attempts,
+        give_up_after: retries.give_up_after,
         in_flight: FLYING.get_u32(matches),
         epoch: EPOCH.get_u32(matches),
         deal: DEAL_LIMIT,
@@ -435,7 +452,11 @@ where
         Ok(address) => address,
         Err(fault) => return usage(rt, address_fault(fault)),
     };
-    let Ok(mut options) = options_of(rt.alloc(), matches, to, &durations) else {
+    let retries = match retries_of(rt, matches) {
+        Ok(retries) => retries,
+        Err(exit) => return exit,
+    };
+    let Ok(mut options) = options_of(rt.alloc(), matches, to, &durations, retries) else {
         return out_of_memory(rt);
     };
     match counter_of(rt.alloc(), matches, &COUNTER) {

@@ -1,6 +1,7 @@
 //! `relay serve`.
 use crate::options::{
-    DurationOption, NO_COUNTER, NO_HOST, NumberOption, TO, TextOption, counter_of,
+    DurationOption, GIVE_UP_AFTER, NO_COUNTER, NO_HOST, NumberOption, Retries, TO, TextOption,
+    counter_of, read_retries,
 };
 use crate::report::{out_of_memory, usage};
 use crate::subcommand::run::address_fault;
@@ -46,7 +47,8 @@ those that begin with _source are ignored; others are refused for writes. A memb
 _index, _id and _type is refused with its operation, and so are updates and creates with an id: 400 in the item,
 while the others go on. A body whose lines cannot be told apart is refused as a whole.
 
-An operation that did not end within --answer-within is answered with 503 and relay_timeout; it may still be
+An operation that fails is sent again until --give-up-after has passed since it was first sent.
+One that did not end within --answer-within is answered with 503 and relay_timeout; it may still be
 applied, and what is put for its document later stays behind it. Errors of the index are passed on with their type and reason.
 
 The epoch has to be above those of all earlier runs over the same documents: --epoch-from takes it from the index, as
@@ -98,6 +100,15 @@ const EPOCH: TextOption = TextOption {
     help: "The epoch, above those of all earlier runs, from 0 to 4194303",
 };
 
+const ATTEMPTS: TextOption = TextOption {
+    name: "attempts",
+    value: "N",
+    help: "Give an operation up after so many requests that carried it, not counting those halved after a 413, 1 to 32, in place of --give-up-after",
+};
+
+// How long a failing operation is sent again, if nothing else is said.
+const GIVE_UP: &str = "8s";
+
 const WORKERS: NumberOption = NumberOption {
     name: "workers",
     least: 1,
@@ -130,16 +141,8 @@ const BYTES: NumberOption = NumberOption {
     help: "Maximum size of the body of a request to the index in bytes, 1024 to 16777216; a single operation may have more",
 };
 
-const ATTEMPTS: NumberOption = NumberOption {
-    name: "attempts",
-    least: 1,
-    most: ATTEMPT_LIMIT as u64,
-    default: "7",
-    help: "Maximum number of requests that carry an operation, not counting those halved after a 413, 1 to 32; between 7 of them its lane pauses for 6.3 s in all",
-};
-
 // The numeric options, in the order of the help.
-const NUMBERS: &[NumberOption] = &[WORKERS, LANES, COUNT, BYTES, ATTEMPTS];
+const NUMBERS: &[NumberOption] = &[WORKERS, LANES, COUNT, BYTES];
 
 const TIMEOUT: DurationOption = DurationOption {
     name: "timeout",
@@ -207,7 +210,12 @@ pub fn command<'a>(alloc: Global, name: &'static str) -> Result<Command<'a>, All
     for option in DURATIONS {
         command = command.arg(option.arg(alloc))?;
     }
-    Ok(command)
+    let attempts = ATTEMPTS
+        .arg(alloc)
+        .value_parser(ValueParser::unsigned(1, ATTEMPT_LIMIT as u64))
+        .conflicts_with(GIVE_UP_AFTER.name)?;
+    let give_up = GIVE_UP_AFTER.arg(alloc).default_value(GIVE_UP);
+    command.arg(give_up)?.arg(attempts)
 }
 
 // The options that are lengths of time, each in its units.
@@ -261,7 +269,18 @@ fn epoch_of<R: Eprint + AllocGlobal>(
     }
 }
 
-fn config_of(matches: &ArgMatches<'_>) -> RelayConfig {
+// How often, and how long, an operation that fails is sent again.
+fn retries_of<R: Eprint>(rt: &R, matches: &ArgMatches<'_>) -> Result<Retries, Exit> {
+    match matches.get_one::<u32>(ATTEMPTS.name) {
+        Some(attempts) => Ok(Retries {
+            attempts,
+            give_up_after: None,
+        }),
+        None => read_retries(rt, GIVE_UP_AFTER.get(matches).unwrap_or(GIVE_UP)),
+    }
+}
+
+fn config_of(matches: &ArgMatches<'_>, retries: Retries) -> RelayConfig {
     RelayConfig {
         lanes: LANES.get_u32(matches),
         producers: WORKERS.get_u32(matches),
@@ -272,7 +291,8 @@ fn config_of(matches: &ArgMatches<'_>) -> RelayConfig {
             bytes: BYTES.get(matches),
             linger: 0,
         },
-        attempts: ATTEMPTS.get_u32(matches),
+        attempts: retries.attempts,
+        give_up_after: retries.give_up_after,
         in_flight: 1,
         epoch: 0,
         deal: DEAL_LIMIT,
@@ -286,13 +306,14 @@ fn options_of(
     face: Face,
     epoch: EpochSource,
     durations: &Durations,
+    retries: Retries,
 ) -> Result<ServeOptions, AllocError> {
     Ok(ServeOptions {
         listen: String::from_str(alloc, LISTEN.get(matches).unwrap_or(""))?,
         to: String::from_str(alloc, to)?,
         index: INDEX.own(alloc, matches)?,
         face,
-        config: config_of(matches),
+        config: config_of(matches, retries),
         epoch,
         timeout: durations.timeout,
         patience: durations.patience,
@@ -321,7 +342,11 @@ where
         Ok(epoch) => epoch,
         Err(exit) => return exit,
     };
-    let Ok(options) = options_of(rt.alloc(), matches, to, face, epoch, &durations) else {
+    let retries = match retries_of(rt, matches) {
+        Ok(retries) => retries,
+        Err(exit) => return exit,
+    };
+    let Ok(options) = options_of(rt.alloc(), matches, to, face, epoch, &durations, retries) else {
         return out_of_memory(rt);
     };
     if !options.is_valid() {

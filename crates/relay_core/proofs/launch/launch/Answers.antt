@@ -29,7 +29,7 @@ places-preserved c =
     let n = next_of cs i (omega (arith, lt, most)) in
     let h = n.one in
     let k = h.key in
-    let f = launch_one c.args.number i in
+    let f = launch_one c.places.held.clock c.args.number i in
     let first = some_left (candidates_kept c.places.held.list c.places.held.clock) cs i n v.left in
     let here = its_first c.places.held.list c.places.held.clock h v.rises first in
     let list = c.launch.ensures.list h first in
@@ -43,17 +43,17 @@ places-preserved c =
     let w : c.launch.result ≡ h.write = c.launch.ensures.write h first in
     let len = c.load.ensures.len in let cap = c.load.ensures.capacity in let room = v.room in
     record {
-      rises = subst Rises (sym list) (rises_with k f c.places.held.list (launch_keeps c.args.number i) v.rises);
+      rises = subst Rises (sym list) (rises_with k f c.places.held.list (launch_keeps c.places.held.clock c.args.number i) v.rises);
       clock = clock ∙ v.clock;
       looks = c.launch.ensures.looks ∙ v.looks;
       left = (λ j. candidates_kept (list j) (clock j)) ∙ candidates_next c.places.held.list c.places.held.clock c.args.number i h v.rises first ∙ ap (drop 1) v.left ∙ drop_more i cs;
       room = omega (arith, len, cap, room, lt);
-      held = ap (λ zs. launched_kept zs c.args.number (i + 1) is) list ∙ sym (launched_step c.args.number i k h is waits next c.places.held.list v.rises here)
-          ∙ ap (launched_kept c.places.held.list c.args.number i) (sym items) ∙ v.held;
+      held = (λ j. launched_kept (clock j) (list j) c.args.number (i + 1) is) ∙ sym (launched_step c.places.held.clock c.args.number i k h is waits next c.places.held.list v.rises here)
+          ∙ ap (launched_kept c.places.held.clock c.places.held.list c.args.number i) (sym items) ∙ v.held;
       writes = ap (λ zs. zs ++ freight c.launch.new.self.list is) c.load.ensures.items
           ∙ append_assoc c.places.writes.items (option_to_list c.launch.result) (freight c.launch.new.self.list is)
           ∙ (λ j. c.places.writes.items ++ (option_to_list (w j) ++ freight (list j) is))
-          ∙ ap (λ ws. c.places.writes.items ++ ws) (sym (freight_step c.args.number i k h is waits next c.places.held.list v.rises here))
+          ∙ ap (λ ws. c.places.writes.items ++ ws) (sym (freight_step c.places.held.clock c.args.number i k h is waits next c.places.held.list v.rises here))
           ∙ ap (λ js. c.places.writes.items ++ freight c.places.held.list js) (sym items) ∙ v.writes;
     }
 
@@ -65,7 +65,7 @@ returns-clause-held c =
     let v = c.places.invariant in
     let ge = c.places-test.false in let le = c.places.auto.place-end in
     let none = none_taken c.args.count c.places.place (drop c.places.place (candidates_kept c.args.held.now.list c.args.held.now.clock)) (omega (arith, ge, le)) in
-    sym (launched_none c.places.held.list c.args.number c.places.place) ∙ ap (launched_kept c.places.held.list c.args.number c.places.place) (sym none) ∙ v.held
+    sym (launched_none c.places.held.clock c.places.held.list c.args.number c.places.place) ∙ ap (launched_kept c.places.held.clock c.places.held.list c.args.number c.places.place) (sym none) ∙ v.held
 
 nothing_after : {A : Type 0} (xs : List A) → xs ++ [] ≡ xs
 nothing_after [] = refl

@@ -11,6 +11,6 @@ invariant-places l = record {
   looks : l.held.looks ≡ l.fn.held.looks;
   left : candidates_kept l.held.list l.held.clock ≡ drop l.place (candidates_kept l.fn.held.list l.fn.held.clock);
   room : vec_len l.writes + (l.count - l.place) ≤ vec_capacity l.writes;
-  held : launched_kept l.held.list l.number l.place (map item_of_kept (take (l.count - l.place) (drop l.place (candidates_kept l.fn.held.list l.fn.held.clock)))) ≡ launched_kept l.fn.held.list l.number 0 (map item_of_kept (take l.count (candidates_kept l.fn.held.list l.fn.held.clock)));
+  held : launched_kept l.held.clock l.held.list l.number l.place (map item_of_kept (take (l.count - l.place) (drop l.place (candidates_kept l.fn.held.list l.fn.held.clock)))) ≡ launched_kept l.fn.held.clock l.fn.held.list l.number 0 (map item_of_kept (take l.count (candidates_kept l.fn.held.list l.fn.held.clock)));
   writes : l.writes.items ++ freight l.held.list (map item_of_kept (take (l.count - l.place) (drop l.place (candidates_kept l.fn.held.list l.fn.held.clock)))) ≡ l.fn.writes.items ++ freight l.fn.held.list (map item_of_kept (take l.count (candidates_kept l.fn.held.list l.fn.held.clock)));
 }

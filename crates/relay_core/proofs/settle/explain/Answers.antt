@@ -1,4 +1,4 @@
-use Rattle.std.proofs.Common.{refl, ap, sym, ◌∙◌, arith, length}
+use Rattle.std.proofs.Common.{refl, sym, arith}
 use Rattle.std.proofs.lemmas.List.{length-map}
 use Rattle.relay_core.specs.Walk.{report_of}
 use Rattle.relay_core.proofs.Explained.{none_there, other_there, set_there}

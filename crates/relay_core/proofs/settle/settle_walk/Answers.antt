@@ -6,9 +6,9 @@ use Rattle.relay_delivery.specs.Machine.{is_applied_fate, is_already_fate}
 use Rattle.std.proofs.Common.{ℕ, None, true, false}
 use Rattle.relay_results.proofs.Lists.{some_same}
 use Rattle.relay_held.specs.declared.kept.Kept.{Kept}
-use Rattle.relay_core.specs.Walk.{flies_here, waits_here, report_of, kept_walk, reports_walk, successes_walk, tally_walk, fate_one, tally, reports_one, success_one, status_in}
+use Rattle.relay_core.specs.Walk.{allowed_at, flies_here, waits_here, report_of, kept_walk, reports_walk, successes_walk, tally_walk, fate_one, tally, reports_one, success_one, status_in}
 use Rattle.relay_core.specs.Memory.{Carries}
-use Rattle.relay_core.specs.State.{is_reported_fate, is_retried_fate}
+use Rattle.relay_core.specs.State.{config_of, is_reported_fate, is_retried_fate}
 use Rattle.relay_core.proofs.Settling.{met_ends}
 use Rattle.relay_core.proofs.Passing.{find_flying, flying_first, cons_of, nil_of, carried_few, turned, reported_turn, succeeded_turn, successes_end, counts_one, ends_is, kept_end, reports_end, tally_end, nothing_after, tally_as}
 use Rattle.relay_core.proofs.settle.settle_walk.Goals as goal
@@ -37,13 +37,13 @@ writes-init c =
       done = omega arith;
       more = omega arith;
       matched = refl;
-      held = λ i. kept_walk c.args.held.now.list c.args.max c.args.clock c.args.number c.args.whole (a i) (b i);
-      reports = λ i. map report_of c.args.reports.now.items ++ reports_walk c.args.held.now.list c.args.max c.args.number c.args.whole (a i) (b i);
-      successes = λ i. c.args.successes.now.items ++ successes_walk c.args.held.now.list c.args.max c.args.number c.args.whole (a i) (b i);
-      applied = (let z : 0 + tally_walk is_applied_fate c.args.held.now.list c.args.max c.args.number c.args.whole (into_iter_items c.into_iter-ahead.result) (into_iter_items c.into_iter-left.result) ≡ tally_walk is_applied_fate c.args.held.now.list c.args.max c.args.number c.args.whole (into_iter_items c.into_iter-ahead.result) (into_iter_items c.into_iter-left.result) = omega arith in z) ∙ (λ i. tally_walk is_applied_fate c.args.held.now.list c.args.max c.args.number c.args.whole (a i) (b i));
-      already = (let z : 0 + tally_walk is_already_fate c.args.held.now.list c.args.max c.args.number c.args.whole (into_iter_items c.into_iter-ahead.result) (into_iter_items c.into_iter-left.result) ≡ tally_walk is_already_fate c.args.held.now.list c.args.max c.args.number c.args.whole (into_iter_items c.into_iter-ahead.result) (into_iter_items c.into_iter-left.result) = omega arith in z) ∙ (λ i. tally_walk is_already_fate c.args.held.now.list c.args.max c.args.number c.args.whole (a i) (b i));
-      reported = (let z : 0 + tally_walk is_reported_fate c.args.held.now.list c.args.max c.args.number c.args.whole (into_iter_items c.into_iter-ahead.result) (into_iter_items c.into_iter-left.result) ≡ tally_walk is_reported_fate c.args.held.now.list c.args.max c.args.number c.args.whole (into_iter_items c.into_iter-ahead.result) (into_iter_items c.into_iter-left.result) = omega arith in z) ∙ (λ i. tally_walk is_reported_fate c.args.held.now.list c.args.max c.args.number c.args.whole (a i) (b i));
-      retried = (let z : 0 + tally_walk is_retried_fate c.args.held.now.list c.args.max c.args.number c.args.whole (into_iter_items c.into_iter-ahead.result) (into_iter_items c.into_iter-left.result) ≡ tally_walk is_retried_fate c.args.held.now.list c.args.max c.args.number c.args.whole (into_iter_items c.into_iter-ahead.result) (into_iter_items c.into_iter-left.result) = omega arith in z) ∙ (λ i. tally_walk is_retried_fate c.args.held.now.list c.args.max c.args.number c.args.whole (a i) (b i));
+      held = λ i. kept_walk c.args.held.now.list (allowed_at (config_of c.args.config.now) c.args.clock) c.args.clock c.args.number c.args.whole (a i) (b i);
+      reports = λ i. map report_of c.args.reports.now.items ++ reports_walk c.args.held.now.list (allowed_at (config_of c.args.config.now) c.args.clock) c.args.number c.args.whole (a i) (b i);
+      successes = λ i. c.args.successes.now.items ++ successes_walk c.args.held.now.list (allowed_at (config_of c.args.config.now) c.args.clock) c.args.number c.args.whole (a i) (b i);
+      applied = (let z : 0 + tally_walk is_applied_fate c.args.held.now.list (allowed_at (config_of c.args.config.now) c.args.clock) c.args.number c.args.whole (into_iter_items c.into_iter-ahead.result) (into_iter_items c.into_iter-left.result) ≡ tally_walk is_applied_fate c.args.held.now.list (allowed_at (config_of c.args.config.now) c.args.clock) c.args.number c.args.whole (into_iter_items c.into_iter-ahead.result) (into_iter_items c.into_iter-left.result) = omega arith in z) ∙ (λ i. tally_walk is_applied_fate c.args.held.now.list (allowed_at (config_of c.args.config.now) c.args.clock) c.args.number c.args.whole (a i) (b i));
+      already = (let z : 0 + tally_walk is_already_fate c.args.held.now.list (allowed_at (config_of c.args.config.now) c.args.clock) c.args.number c.args.whole (into_iter_items c.into_iter-ahead.result) (into_iter_items c.into_iter-left.result) ≡ tally_walk is_already_fate c.args.held.now.list (allowed_at (config_of c.args.config.now) c.args.clock) c.args.number c.args.whole (into_iter_items c.into_iter-ahead.result) (into_iter_items c.into_iter-left.result) = omega arith in z) ∙ (λ i. tally_walk is_already_fate c.args.held.now.list (allowed_at (config_of c.args.config.now) c.args.clock) c.args.number c.args.whole (a i) (b i));
+      reported = (let z : 0 + tally_walk is_reported_fate c.args.held.now.list (allowed_at (config_of c.args.config.now) c.args.clock) c.args.number c.args.whole (into_iter_items c.into_iter-ahead.result) (into_iter_items c.into_iter-left.result) ≡ tally_walk is_reported_fate c.args.held.now.list (allowed_at (config_of c.args.config.now) c.args.clock) c.args.number c.args.whole (into_iter_items c.into_iter-ahead.result) (into_iter_items c.into_iter-left.result) = omega arith in z) ∙ (λ i. tally_walk is_reported_fate c.args.held.now.list (allowed_at (config_of c.args.config.now) c.args.clock) c.args.number c.args.whole (a i) (b i));
+      retried = (let z : 0 + tally_walk is_retried_fate c.args.held.now.list (allowed_at (config_of c.args.config.now) c.args.clock) c.args.number c.args.whole (into_iter_items c.into_iter-ahead.result) (into_iter_items c.into_iter-left.result) ≡ tally_walk is_retried_fate c.args.held.now.list (allowed_at (config_of c.args.config.now) c.args.clock) c.args.number c.args.whole (into_iter_items c.into_iter-ahead.result) (into_iter_items c.into_iter-left.result) = omega arith in z) ∙ (λ i. tally_walk is_retried_fate c.args.held.now.list (allowed_at (config_of c.args.config.now) c.args.clock) c.args.number c.args.whole (a i) (b i));
     }
 
 pub settle_one-requires-clause-flies : goal.settle_one-requires-clause-flies
@@ -67,7 +67,7 @@ writes-preserved c =
     let os = into_iter_items c.writes.left in
     let w = c.in-Some.write in
     let n = c.args.number in
-    let max = c.args.max in
+    let allowed : Kept → ℕ = allowed_at (config_of c.args.config.now) c.args.clock in
     let clock = c.args.clock in
     let whole = c.args.whole in
     let at : slice_get (into_iter_items c.writes.ahead) 0 ≡ Some c.in-Some.write = sym c.in-Some.ensures.value in
@@ -76,14 +76,14 @@ writes-preserved c =
     let e = flying_first n hs w c.len.ensures.behind f in
     let h = f.one in
     let en = c.next_of-entry.ensures.value in
-    let y = fate_one max whole h (slice_get os 0) in
-    let x = ap (fate_one max whole h) en in
-    let is = c.settle_one.ensures.held h e ∙ ap (λ o. Rattle.relay_core.specs.Walk.after_one clock w hs (fate_one max whole h o)) en in
+    let y = fate_one allowed whole h (slice_get os 0) in
+    let x = ap (fate_one allowed whole h) en in
+    let is = c.settle_one.ensures.held h e ∙ ap (λ o. Rattle.relay_core.specs.Walk.after_one clock w hs (fate_one allowed whole h o)) en in
     let r = c.in-Some.ensures.rest in
     let l = c.next_of-entry.ensures.rest in
-    let t = turned n max clock whole hs c.settle_one.new.held.list ws os w at v.carries h e f.flies is in
-    let one = counts_one (fate_one max whole h (slice_get os 0)) (met_ends max whole h os) in
-    let fin = ends_is (fate_one max whole h (slice_get os 0)) (met_ends max whole h os) in
+    let t = turned n allowed clock whole hs c.settle_one.new.held.list ws os w at v.carries h e f.flies is in
+    let one = counts_one (fate_one allowed whole h (slice_get os 0)) (met_ends allowed whole h os) in
+    let fin = ends_is (fate_one allowed whole h (slice_get os 0)) (met_ends allowed whole h os) in
     let sa = c.settle_one.ensures.applied h e ∙ ap (λ z. c.writes.counts.applied + tally (is_applied_fate z)) x in
     let sb = c.settle_one.ensures.already h e ∙ ap (λ z. c.writes.counts.already + tally (is_already_fate z)) x in
     let sr = c.settle_one.ensures.reported h e ∙ ap (λ z. c.writes.counts.reported + tally (is_reported_fate z)) x in
@@ -110,19 +110,19 @@ writes-preserved c =
       done = omega (arith, sa, sb, fin, fewer, done);
       more = omega (arith, sl, more);
       matched = c.settle_one.ensures.matched ∙ v.matched;
-      held = (λ i. kept_walk c.settle_one.new.held.list max clock n whole (r i) (l i)) ∙ sym t.kept ∙ v.held;
-      reports = (λ i. (c.settle_one.ensures.reports h e ∙ ap (λ z. map report_of c.writes.reports.items ++ reports_one z h w) x) i ++ reports_walk c.settle_one.new.held.list max n whole (r i) (l i))
-          ∙ append_assoc (map report_of c.writes.reports.items) (reports_one (fate_one max whole h (slice_get os 0)) h w) (reports_walk c.settle_one.new.held.list max n whole (drop 1 ws) (drop 1 os))
-          ∙ ap (λ rs. map report_of c.writes.reports.items ++ rs) (sym (reported_turn n max clock whole hs c.settle_one.new.held.list ws os w at v.carries h e f.flies is))
+      held = (λ i. kept_walk c.settle_one.new.held.list allowed clock n whole (r i) (l i)) ∙ sym t.kept ∙ v.held;
+      reports = (λ i. (c.settle_one.ensures.reports h e ∙ ap (λ z. map report_of c.writes.reports.items ++ reports_one z h w) x) i ++ reports_walk c.settle_one.new.held.list allowed n whole (r i) (l i))
+          ∙ append_assoc (map report_of c.writes.reports.items) (reports_one (fate_one allowed whole h (slice_get os 0)) h w) (reports_walk c.settle_one.new.held.list allowed n whole (drop 1 ws) (drop 1 os))
+          ∙ ap (λ rs. map report_of c.writes.reports.items ++ rs) (sym (reported_turn n allowed clock whole hs c.settle_one.new.held.list ws os w at v.carries h e f.flies is))
           ∙ v.reports;
-      successes = (λ i. (c.settle_one.ensures.successes h e ∙ (λ j. c.writes.successes.items ++ success_one (x j) (status_in (en j)) h w)) i ++ successes_walk c.settle_one.new.held.list max n whole (r i) (l i))
-          ∙ append_assoc c.writes.successes.items (success_one (fate_one max whole h (slice_get os 0)) (status_in (slice_get os 0)) h w) (successes_walk c.settle_one.new.held.list max n whole (drop 1 ws) (drop 1 os))
-          ∙ ap (λ rs. c.writes.successes.items ++ rs) (sym (succeeded_turn n max clock whole hs c.settle_one.new.held.list ws os w at v.carries h e f.flies is))
+      successes = (λ i. (c.settle_one.ensures.successes h e ∙ (λ j. c.writes.successes.items ++ success_one (x j) (status_in (en j)) h w)) i ++ successes_walk c.settle_one.new.held.list allowed n whole (r i) (l i))
+          ∙ append_assoc c.writes.successes.items (success_one (fate_one allowed whole h (slice_get os 0)) (status_in (slice_get os 0)) h w) (successes_walk c.settle_one.new.held.list allowed n whole (drop 1 ws) (drop 1 os))
+          ∙ ap (λ rs. c.writes.successes.items ++ rs) (sym (succeeded_turn n allowed clock whole hs c.settle_one.new.held.list ws os w at v.carries h e f.flies is))
           ∙ v.successes;
-      applied = (let a = tally_as is_applied_fate c.settle_one.new.held.list max n whole (into_iter_items c.next_of.new.items) (drop 1 ws) (into_iter_items c.next_of-entry.new.items) (drop 1 os) r l in let b = t.tallied is_applied_fate in let d = v.applied in omega (arith, a, b, d, sa));
-      already = (let a = tally_as is_already_fate c.settle_one.new.held.list max n whole (into_iter_items c.next_of.new.items) (drop 1 ws) (into_iter_items c.next_of-entry.new.items) (drop 1 os) r l in let b = t.tallied is_already_fate in let d = v.already in omega (arith, a, b, d, sb));
-      reported = (let a = tally_as is_reported_fate c.settle_one.new.held.list max n whole (into_iter_items c.next_of.new.items) (drop 1 ws) (into_iter_items c.next_of-entry.new.items) (drop 1 os) r l in let b = t.tallied is_reported_fate in let d = v.reported in omega (arith, a, b, d, sr));
-      retried = (let a = tally_as is_retried_fate c.settle_one.new.held.list max n whole (into_iter_items c.next_of.new.items) (drop 1 ws) (into_iter_items c.next_of-entry.new.items) (drop 1 os) r l in let b = t.tallied is_retried_fate in let d = v.retried in omega (arith, a, b, d, st));
+      applied = (let a = tally_as is_applied_fate c.settle_one.new.held.list allowed n whole (into_iter_items c.next_of.new.items) (drop 1 ws) (into_iter_items c.next_of-entry.new.items) (drop 1 os) r l in let b = t.tallied is_applied_fate in let d = v.applied in omega (arith, a, b, d, sa));
+      already = (let a = tally_as is_already_fate c.settle_one.new.held.list allowed n whole (into_iter_items c.next_of.new.items) (drop 1 ws) (into_iter_items c.next_of-entry.new.items) (drop 1 os) r l in let b = t.tallied is_already_fate in let d = v.already in omega (arith, a, b, d, sb));
+      reported = (let a = tally_as is_reported_fate c.settle_one.new.held.list allowed n whole (into_iter_items c.next_of.new.items) (drop 1 ws) (into_iter_items c.next_of-entry.new.items) (drop 1 os) r l in let b = t.tallied is_reported_fate in let d = v.reported in omega (arith, a, b, d, sr));
+      retried = (let a = tally_as is_retried_fate c.settle_one.new.held.list allowed n whole (into_iter_items c.next_of.new.items) (drop 1 ws) (into_iter_items c.next_of-entry.new.items) (drop 1 os) r l in let b = t.tallied is_retried_fate in let d = v.retried in omega (arith, a, b, d, st));
     }
 
 pub returns-clause-held : goal.returns-clause-held
@@ -130,8 +130,8 @@ returns-clause-held c =
     let v = c.writes.invariant in
     let e = nil_of (into_iter_items c.writes.ahead) (sym c.in_default.ensures.value) in
     let cs = subst (λ xs. Carries c.args.number v.carries.0 c.writes.held.list xs) e v.carries.1 in
-    sym (kept_end c.args.number c.args.max c.args.clock c.args.whole c.writes.held.list v.carries.0 (into_iter_items c.writes.left) cs)
-    ∙ ap (λ xs. kept_walk c.writes.held.list c.args.max c.args.clock c.args.number c.args.whole xs (into_iter_items c.writes.left)) (sym e) ∙ v.held
+    sym (kept_end c.args.number (allowed_at (config_of c.args.config.now) c.args.clock) c.args.clock c.args.whole c.writes.held.list v.carries.0 (into_iter_items c.writes.left) cs)
+    ∙ ap (λ xs. kept_walk c.writes.held.list (allowed_at (config_of c.args.config.now) c.args.clock) c.args.clock c.args.number c.args.whole xs (into_iter_items c.writes.left)) (sym e) ∙ v.held
 
 pub returns-clause-reports : goal.returns-clause-reports
 returns-clause-reports c =
@@ -139,8 +139,8 @@ returns-clause-reports c =
     let e = nil_of (into_iter_items c.writes.ahead) (sym c.in_default.ensures.value) in
     let cs = subst (λ xs. Carries c.args.number v.carries.0 c.writes.held.list xs) e v.carries.1 in
     sym (nothing_after (map report_of c.writes.reports.items))
-    ∙ ap (λ rs. map report_of c.writes.reports.items ++ rs) (sym (reports_end c.args.number c.args.max c.args.clock c.args.whole c.writes.held.list v.carries.0 (into_iter_items c.writes.left) cs)
-    ∙ ap (λ xs. reports_walk c.writes.held.list c.args.max c.args.number c.args.whole xs (into_iter_items c.writes.left)) (sym e)) ∙ v.reports
+    ∙ ap (λ rs. map report_of c.writes.reports.items ++ rs) (sym (reports_end c.args.number (allowed_at (config_of c.args.config.now) c.args.clock) c.args.clock c.args.whole c.writes.held.list v.carries.0 (into_iter_items c.writes.left) cs)
+    ∙ ap (λ xs. reports_walk c.writes.held.list (allowed_at (config_of c.args.config.now) c.args.clock) c.args.number c.args.whole xs (into_iter_items c.writes.left)) (sym e)) ∙ v.reports
 
 pub returns-clause-successes : goal.returns-clause-successes
 returns-clause-successes c =
@@ -148,16 +148,16 @@ returns-clause-successes c =
     let e = nil_of (into_iter_items c.writes.ahead) (sym c.in_default.ensures.value) in
     let cs = subst (λ xs. Carries c.args.number v.carries.0 c.writes.held.list xs) e v.carries.1 in
     sym (nothing_after c.writes.successes.items)
-    ∙ ap (λ rs. c.writes.successes.items ++ rs) (sym (successes_end c.args.number c.args.max c.args.clock c.args.whole c.writes.held.list v.carries.0 (into_iter_items c.writes.left) cs)
-    ∙ ap (λ xs. successes_walk c.writes.held.list c.args.max c.args.number c.args.whole xs (into_iter_items c.writes.left)) (sym e)) ∙ v.successes
+    ∙ ap (λ rs. c.writes.successes.items ++ rs) (sym (successes_end c.args.number (allowed_at (config_of c.args.config.now) c.args.clock) c.args.clock c.args.whole c.writes.held.list v.carries.0 (into_iter_items c.writes.left) cs)
+    ∙ ap (λ xs. successes_walk c.writes.held.list (allowed_at (config_of c.args.config.now) c.args.clock) c.args.number c.args.whole xs (into_iter_items c.writes.left)) (sym e)) ∙ v.successes
 
 pub returns-clause-applied : goal.returns-clause-applied
 returns-clause-applied c =
     let v = c.writes.invariant in
     let e = nil_of (into_iter_items c.writes.ahead) (sym c.in_default.ensures.value) in
     let cs = subst (λ xs. Carries c.args.number v.carries.0 c.writes.held.list xs) e v.carries.1 in
-    let z = tally_end c.args.number c.args.max c.args.clock c.args.whole is_applied_fate c.writes.held.list v.carries.0 (into_iter_items c.writes.left) cs in
-    let a = tally_as is_applied_fate c.writes.held.list c.args.max c.args.number c.args.whole (into_iter_items c.writes.ahead) [] (into_iter_items c.writes.left) (into_iter_items c.writes.left) e refl in
+    let z = tally_end c.args.number (allowed_at (config_of c.args.config.now) c.args.clock) c.args.clock c.args.whole is_applied_fate c.writes.held.list v.carries.0 (into_iter_items c.writes.left) cs in
+    let a = tally_as is_applied_fate c.writes.held.list (allowed_at (config_of c.args.config.now) c.args.clock) c.args.number c.args.whole (into_iter_items c.writes.ahead) [] (into_iter_items c.writes.left) (into_iter_items c.writes.left) e refl in
     let d = v.applied in omega (arith, z, a, d)
 
 pub returns-clause-already : goal.returns-clause-already
@@ -165,8 +165,8 @@ returns-clause-already c =
     let v = c.writes.invariant in
     let e = nil_of (into_iter_items c.writes.ahead) (sym c.in_default.ensures.value) in
     let cs = subst (λ xs. Carries c.args.number v.carries.0 c.writes.held.list xs) e v.carries.1 in
-    let z = tally_end c.args.number c.args.max c.args.clock c.args.whole is_already_fate c.writes.held.list v.carries.0 (into_iter_items c.writes.left) cs in
-    let a = tally_as is_already_fate c.writes.held.list c.args.max c.args.number c.args.whole (into_iter_items c.writes.ahead) [] (into_iter_items c.writes.left) (into_iter_items c.writes.left) e refl in
+    let z = tally_end c.args.number (allowed_at (config_of c.args.config.now) c.args.clock) c.args.clock c.args.whole is_already_fate c.writes.held.list v.carries.0 (into_iter_items c.writes.left) cs in
+    let a = tally_as is_already_fate c.writes.held.list (allowed_at (config_of c.args.config.now) c.args.clock) c.args.number c.args.whole (into_iter_items c.writes.ahead) [] (into_iter_items c.writes.left) (into_iter_items c.writes.left) e refl in
     let d = v.already in omega (arith, z, a, d)
 
 pub returns-clause-reported : goal.returns-clause-reported
@@ -174,8 +174,8 @@ returns-clause-reported c =
     let v = c.writes.invariant in
     let e = nil_of (into_iter_items c.writes.ahead) (sym c.in_default.ensures.value) in
     let cs = subst (λ xs. Carries c.args.number v.carries.0 c.writes.held.list xs) e v.carries.1 in
-    let z = tally_end c.args.number c.args.max c.args.clock c.args.whole is_reported_fate c.writes.held.list v.carries.0 (into_iter_items c.writes.left) cs in
-    let a = tally_as is_reported_fate c.writes.held.list c.args.max c.args.number c.args.whole (into_iter_items c.writes.ahead) [] (into_iter_items c.writes.left) (into_iter_items c.writes.left) e refl in
+    let z = tally_end c.args.number (allowed_at (config_of c.args.config.now) c.args.clock) c.args.clock c.args.whole is_reported_fate c.writes.held.list v.carries.0 (into_iter_items c.writes.left) cs in
+    let a = tally_as is_reported_fate c.writes.held.list (allowed_at (config_of c.args.config.now) c.args.clock) c.args.number c.args.whole (into_iter_items c.writes.ahead) [] (into_iter_items c.writes.left) (into_iter_items c.writes.left) e refl in
     let d = v.reported in omega (arith, z, a, d)
 
 pub returns-clause-retried : goal.returns-clause-retried
@@ -183,8 +183,8 @@ returns-clause-retried c =
     let v = c.writes.invariant in
     let e = nil_of (into_iter_items c.writes.ahead) (sym c.in_default.ensures.value) in
     let cs = subst (λ xs. Carries c.args.number v.carries.0 c.writes.held.list xs) e v.carries.1 in
-    let z = tally_end c.args.number c.args.max c.args.clock c.args.whole is_retried_fate c.writes.held.list v.carries.0 (into_iter_items c.writes.left) cs in
-    let a = tally_as is_retried_fate c.writes.held.list c.args.max c.args.number c.args.whole (into_iter_items c.writes.ahead) [] (into_iter_items c.writes.left) (into_iter_items c.writes.left) e refl in
+    let z = tally_end c.args.number (allowed_at (config_of c.args.config.now) c.args.clock) c.args.clock c.args.whole is_retried_fate c.writes.held.list v.carries.0 (into_iter_items c.writes.left) cs in
+    let a = tally_as is_retried_fate c.writes.held.list (allowed_at (config_of c.args.config.now) c.args.clock) c.args.number c.args.whole (into_iter_items c.writes.ahead) [] (into_iter_items c.writes.left) (into_iter_items c.writes.left) e refl in
     let d = v.retried in omega (arith, z, a, d)
 
 pub returns-clause-clock : goal.returns-clause-clock

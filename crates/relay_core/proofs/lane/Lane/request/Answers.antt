@@ -143,7 +143,7 @@ returns-clause-after c =
     let front = front_of s f hs c.in-Some.batch refl v.readable.rises next in
     let items : map item_of_kept (take (length c.items-2.result.now) cs) ≡ map item_of_kept ps = ap (λ (xs : List BatchItem). map item_of_kept (take (length xs) cs)) c.items-2.ensures.items ∙ front.ones ∙ x.items_are in
     let is_n : c.next-number.result ≡ n = c.next-number.ensures.next in
-    let sent_held = c.launch.ensures.held ∙ (λ j. launched_kept (c.in_ok-batch.ensures.held j).list c.next-number.result 0 (map item_of_kept (take (length c.items-2.result.now) (candidates_kept (c.in_ok-batch.ensures.held j).list (c.in_ok-batch.ensures.held j).clock)))) in
+    let sent_held = c.launch.ensures.held ∙ (λ j. launched_kept (c.in_ok-batch.ensures.held j).clock (c.in_ok-batch.ensures.held j).list c.next-number.result 0 (map item_of_kept (take (length c.items-2.result.now) (candidates_kept (c.in_ok-batch.ensures.held j).list (c.in_ok-batch.ensures.held j).clock)))) in
     let sent_writes = c.launch.ensures.writes ∙ (λ j. c.in_ok-writes.ensures.items j ++ freight (c.in_ok-batch.ensures.held j).list (map item_of_kept (take (length c.items-2.result.now) (candidates_kept (c.in_ok-batch.ensures.held j).list (c.in_ok-batch.ensures.held j).clock)))) in
     let begun = v.flight.begun in
     let none : is_in n fs ≡ false = none_in n fs (lacks_next 1 n fs v.flight.numbered) in
@@ -152,10 +152,10 @@ returns-clause-after c =
     let written : c.launch.new.writes.items ≡ loads ps = sent_writes ∙ (λ j. freight hs (items j)) ∙ freight_is hs ps v.readable.rises x.sub x.wait in
     let same : (m : ℕ) → m < n → f' m ≡ f m = λ m lt. ap (λ xs. writes_in xs m) flown ∙ writes_more_other fs one m (not_it n m (λ e. omega (arith, e, lt))) in
     let here : f' n ≡ loads ps = ap (λ xs. writes_in xs n) flown ∙ writes_more_here fs one none ∙ written in
-    let held : entries c.launch.new.held.list f' ≡ map (launched_entry (n - 1) (held_of (next_entries s))) (entries hs f) =
-    ap (λ xs. entries xs f') (sent_held ∙ (λ j. launched_kept hs (is_n j) 0 (items j)))
-    ∙ launched_seen max n v.tries.1 f f' same hs ps 0 [] [] refl here tt (from_zero_on hs) v.readable.rises v.readable.kept x.sub x.wait
-    ∙ ap (λ es. map (launched_entry (n - 1) (held_of es)) (entries hs f)) (sym x.entries_are) in
+    let held : entries c.launch.new.held.list f' ≡ map (launched_entry i.held.clock (n - 1) (held_of (next_entries s))) (entries hs f) =
+    ap (λ xs. entries xs f') (sent_held ∙ (λ j. launched_kept i.held.clock hs (is_n j) 0 (items j)))
+    ∙ launched_seen i.held.clock max n v.tries.1 f f' same hs ps 0 [] [] refl here tt (from_zero_on hs) v.readable.rises v.readable.kept x.sub x.wait
+    ∙ ap (λ es. map (launched_entry i.held.clock (n - 1) (held_of es)) (entries hs f)) (sym x.entries_are) in
     let sent : c.launch.new.writes.items ≡ writes_of_all (next_entries s) = written ∙ loads_seen max n f ps (kept_sub max n ps hs x.sub v.readable.kept) x.wait ∙ ap writes_of_all (sym x.entries_are) in
     let flying = ap (map flying_of) flown ∙ map-append flying_of fs (one ∷ []) ∙ (λ j. map flying_of fs ++ record { request = n - 1; writes = sent j } ∷ []) in
     let requests : c.enter.new.self.next - 1 ≡ n - 1 + 1 = (let e = ap (λ (y : InFlight). y.next) entered in omega (arith, e, begun)) in
@@ -185,27 +185,27 @@ invariant_of-self-2 c =
     let front = front_of s f hs c.in-Some.batch refl v.readable.rises sends in
     let items : map item_of_kept (take (length c.items-2.result.now) cs) ≡ map item_of_kept ps = ap (λ (xs : List BatchItem). map item_of_kept (take (length xs) cs)) c.items-2.ensures.items ∙ front.ones ∙ x.items_are in
     let is_n : c.next-number.result ≡ n = c.next-number.ensures.next in
-    let sent_held = c.launch.ensures.held ∙ (λ j. launched_kept (c.in_ok-batch.ensures.held j).list c.next-number.result 0 (map item_of_kept (take (length c.items-2.result.now) (candidates_kept (c.in_ok-batch.ensures.held j).list (c.in_ok-batch.ensures.held j).clock)))) in
+    let sent_held = c.launch.ensures.held ∙ (λ j. launched_kept (c.in_ok-batch.ensures.held j).clock (c.in_ok-batch.ensures.held j).list c.next-number.result 0 (map item_of_kept (take (length c.items-2.result.now) (candidates_kept (c.in_ok-batch.ensures.held j).list (c.in_ok-batch.ensures.held j).clock)))) in
     let sent_writes = c.launch.ensures.writes ∙ (λ j. c.in_ok-writes.ensures.items j ++ freight (c.in_ok-batch.ensures.held j).list (map item_of_kept (take (length c.items-2.result.now) (candidates_kept (c.in_ok-batch.ensures.held j).list (c.in_ok-batch.ensures.held j).clock)))) in
     let begun = v.flight.begun in
     let none : is_in n fs ≡ false = none_in n fs (lacks_next 1 n fs v.flight.numbered) in
     let flown : c.enter.new.self.requests ≡ fs ++ one ∷ [] = ap (λ (y : InFlight). y.requests) entered in
-    let held : c.launch.new.held.list ≡ launched_kept hs n 0 (map item_of_kept ps) = sent_held ∙ (λ j. launched_kept hs (is_n j) 0 (items j)) in
+    let held : c.launch.new.held.list ≡ launched_kept i.held.clock hs n 0 (map item_of_kept ps) = sent_held ∙ (λ j. launched_kept i.held.clock hs (is_n j) 0 (items j)) in
     let written : c.launch.new.writes.items ≡ freight hs (map item_of_kept ps) = sent_writes ∙ (λ j. freight hs (items j)) in
     let next : c.enter.new.self.next ≡ i.flight.next + 1 = ap (λ (y : InFlight). y.next) entered in
-    let len_held : length c.launch.new.held.list ≡ length hs = ap length held ∙ length_launched n hs 0 (map item_of_kept ps) in
+    let len_held : length c.launch.new.held.list ≡ length hs = ap length held ∙ length_launched i.held.clock n hs 0 (map item_of_kept ps) in
     let later : n + 1 ≡ c.enter.new.self.next = sym next in
-    let carries : (m : ℕ) → Carries m 0 (launched_kept hs n 0 (map item_of_kept ps)) (writes_in (fs ++ one ∷ []) m) =
-    λ m. ⊎_elim {C = Carries m 0 (launched_kept hs n 0 (map item_of_kept ps)) (writes_in (fs ++ one ∷ []) m)}
+    let carries : (m : ℕ) → Carries m 0 (launched_kept i.held.clock hs n 0 (map item_of_kept ps)) (writes_in (fs ++ one ∷ []) m) =
+    λ m. ⊎_elim {C = Carries m 0 (launched_kept i.held.clock hs n 0 (map item_of_kept ps)) (writes_in (fs ++ one ∷ []) m)}
     (λ t.
     let e : m ≡ n = equal m n t in
-    subst (λ k. Carries k 0 (launched_kept hs n 0 (map item_of_kept ps)) (writes_in (fs ++ one ∷ []) k)) (sym e)
-    (subst (λ ws. Carries n 0 (launched_kept hs n 0 (map item_of_kept ps)) ws) (sym (writes_more_here fs one none ∙ written))
-    (carries_new max n hs 0 (map item_of_kept ps) v.readable.kept)))
+    subst (λ k. Carries k 0 (launched_kept i.held.clock hs n 0 (map item_of_kept ps)) (writes_in (fs ++ one ∷ []) k)) (sym e)
+    (subst (λ ws. Carries n 0 (launched_kept i.held.clock hs n 0 (map item_of_kept ps)) ws) (sym (writes_more_here fs one none ∙ written))
+    (carries_new i.held.clock max n hs 0 (map item_of_kept ps) v.readable.kept)))
     (λ t.
     let apart : (n == m) ≡ false = not_it n m (λ e. let k = equal_test m n (sym e) in absurd (cc)) in
-    subst (λ ws. Carries m 0 (launched_kept hs n 0 (map item_of_kept ps)) ws) (sym (writes_more_other fs one m apart))
-    (carries_other max n m hs 0 (map item_of_kept ps) 0 (writes_in fs m) t (v.readable.carries m)))
+    subst (λ ws. Carries m 0 (launched_kept i.held.clock hs n 0 (map item_of_kept ps)) ws) (sym (writes_more_other fs one m apart))
+    (carries_other i.held.clock max n m hs 0 (map item_of_kept ps) 0 (writes_in fs m) t (v.readable.carries m)))
     (true_or_false (m == n)) in
     let within = subst (IsBatch i.config.limits) x.items_are (batch_kept s c.in-Some.batch sends) in
     let fits = freight_fits hs (map item_of_kept ps) in
@@ -213,29 +213,29 @@ invariant_of-self-2 c =
     let count = (valid_facts i.config v.config).count.1 in
     let of_writes = ap length written in
     let len = length (freight hs (map item_of_kept ps)) in
-    let caps : (m : ℕ) → HasRoom m (length (writes_in (fs ++ one ∷ []) m)) (launched_kept hs n 0 (map item_of_kept ps)) =
-    λ m. ⊎_elim {C = HasRoom m (length (writes_in (fs ++ one ∷ []) m)) (launched_kept hs n 0 (map item_of_kept ps))}
+    let caps : (m : ℕ) → HasRoom m (length (writes_in (fs ++ one ∷ []) m)) (launched_kept i.held.clock hs n 0 (map item_of_kept ps)) =
+    λ m. ⊎_elim {C = HasRoom m (length (writes_in (fs ++ one ∷ []) m)) (launched_kept i.held.clock hs n 0 (map item_of_kept ps))}
     (λ t.
     let e = equal m n t in
-    subst (λ k. HasRoom k (length (writes_in (fs ++ one ∷ []) k)) (launched_kept hs n 0 (map item_of_kept ps))) (sym e)
-    (subst (λ ws. HasRoom n (length ws) (launched_kept hs n 0 (map item_of_kept ps))) (sym (writes_more_here fs one none ∙ written))
-    (room_new max n len hs ps 0 v.readable.kept v.readable.rises x.sub x.wait (all_cap i.config.limits ps len within fits))))
+    subst (λ k. HasRoom k (length (writes_in (fs ++ one ∷ []) k)) (launched_kept i.held.clock hs n 0 (map item_of_kept ps))) (sym e)
+    (subst (λ ws. HasRoom n (length ws) (launched_kept i.held.clock hs n 0 (map item_of_kept ps))) (sym (writes_more_here fs one none ∙ written))
+    (room_new i.held.clock max n len hs ps 0 v.readable.kept v.readable.rises x.sub x.wait (all_cap i.config.limits ps len within fits))))
     (λ t.
     let apart : (n == m) ≡ false = not_it n m (λ e. let k = equal_test m n (sym e) in absurd (cc)) in
-    subst (λ ws. HasRoom m (length ws) (launched_kept hs n 0 (map item_of_kept ps))) (sym (writes_more_other fs one m apart))
-    (room_other n m (length (writes_in fs m)) hs 0 (map item_of_kept ps) t (v.readable.caps m)))
+    subst (λ ws. HasRoom m (length ws) (launched_kept i.held.clock hs n 0 (map item_of_kept ps))) (sym (writes_more_other fs one m apart))
+    (room_other i.held.clock n m (length (writes_in fs m)) hs 0 (map item_of_kept ps) t (v.readable.caps m)))
     (true_or_false (m == n)) in
     record {
       readable = subst (λ k. IsReadable max k c.launch.new.held.list c.enter.new.self.requests) later
           (subst (λ xs. IsReadable max (n + 1) xs c.enter.new.self.requests) (sym held)
-          (subst (λ xs. IsReadable max (n + 1) (launched_kept hs n 0 (map item_of_kept ps)) xs) (sym flown) (record {
-            kept = all_launched max n hs 0 (map item_of_kept ps) begun v.tries.1 v.readable.kept;
-            rises = rises_launched n hs 0 (map item_of_kept ps) v.readable.rises;
+          (subst (λ xs. IsReadable max (n + 1) (launched_kept i.held.clock hs n 0 (map item_of_kept ps)) xs) (sym flown) (record {
+            kept = all_launched i.held.clock max n hs 0 (map item_of_kept ps) begun v.tries.1 v.readable.kept;
+            rises = rises_launched i.held.clock n hs 0 (map item_of_kept ps) v.readable.rises;
             carries = carries;
             caps = caps;
             few = few_more fs one v.readable.few (omega (arith, of_writes, fits, size, count));
           })));
-      under = subst (AllUnder _) (sym held) (under_launched n _ hs 0 (map item_of_kept ps) v.under);
+      under = subst (AllUnder _) (sym held) (under_launched i.held.clock n _ hs 0 (map item_of_kept ps) v.under);
       flight = c.enter.ensures.kept;
       most = ap (λ (y : InFlight). y.max) entered ∙ v.most;
       room = (let p = v.room in omega (arith, len_held, p));
@@ -250,7 +250,7 @@ invariant_of-self-2 c =
       counted = v.counted;
       done = (let p = v.done in omega (arith, len_held, p));
       left = (let a = ap (tries_left max) held in
-          let b = left_more max n hs ps v.tries.1 v.readable.kept v.readable.rises x.sub x.wait (subst (λ xs. 0 < length xs) x.items_are x.some) in
+          let b = left_more i.held.clock max n hs ps v.tries.1 v.readable.kept v.readable.rises x.sub x.wait (subst (λ xs. 0 < length xs) x.items_are x.some) in
           let l = v.left in omega (arith, a, b, l, next, begun));
       config = v.config;
       begins = v.begins;

@@ -16,7 +16,7 @@ returns-clause-lane c =
     let begun = v.flight.begun in
     subst IsLane (ap (λ (v : Seen). v.state) c.self.view_is) (record {
       valid = v.config;
-      config = λ j. record { epoch = i.config.epoch; first = v.begins j; deals = i.config.deal; max = i.config.attempts; cap = i.config.limits.count };
+      config = λ j. record { epoch = i.config.epoch; first = v.begins j; deals = i.config.deal; max = i.config.attempts; age = i.config.give_up_after; cap = i.config.limits.count };
       senders = (let n = v.senders in omega arith);
       clock = omega arith;
       held = (let n = entries_length i.held.list (writes_in i.flight.requests) in let f = v.few in omega arith);

@@ -1,7 +1,6 @@
-use Rattle.std.proofs.Common.{◌≡◌, ℕ, ◌≤◌, None, sym, ap, ◌∙◌, arith, length, subst, refl}
+use Rattle.std.proofs.Common.{◌≡◌, None, sym, ap, ◌∙◌, arith, length, subst, refl}
 use Rattle.relay_results.specs.Verdicts.{is_halved}
 use Rattle.relay_results.specs.Outside.{Whole}
-use Rattle.relay_core.specs.declared.fates.Way.{Way}
 use Rattle.relay_core.specs.State.{State, Seen, writes_of, after_answer_to, explained_at, AreCounts}
 use Rattle.relay_core.specs.Memory.{IsHalf}
 use Rattle.relay_core.specs.View.{state_of}

@@ -7,7 +7,7 @@ use Rattle.relay_held.proofs.documents.Documents.launch.Goals as goal
 
 pub returns-clause-sent : goal.returns-clause-sent
 returns-clause-sent c = λ k h is at.
-    on_shown (launch_one c.args.number c.args.place) c.self.inside.queues c.launch_in.new.queues c.self.inside.slots.entries k c.args.slot c.args.self.now c.self.view_is c.self.invariant
+    on_shown (launch_one c.args.clock c.args.number c.args.place) c.self.inside.queues c.launch_in.new.queues c.self.inside.slots.entries k c.args.slot c.args.self.now c.self.view_is c.self.invariant
     (slot_shown c.self.inside.queues c.self.inside.slots.entries k h c.args.slot c.args.self.now c.self.view_is is at) c.launch_in.ensures.sent
 
 pub returns-clause-write : goal.returns-clause-write
@@ -21,4 +21,4 @@ pub returns-clause-unique : goal.returns-clause-unique
 returns-clause-unique c =
     unique_shelved c.launch_in.new.queues c.self.inside.slots.entries
     (set_shelf c.self.inside.queues c.launch_in.new.queues c.self.inside.slots.entries c.args.slot _ c.self.invariant c.launch_in.ensures.sent
-    (length_on (launch_one c.args.number c.args.place) (queue_in c.self.inside.queues c.args.slot)))
+    (length_on (launch_one c.args.clock c.args.number c.args.place) (queue_in c.self.inside.queues c.args.slot)))

@@ -14,7 +14,7 @@ pub invariant_of-self : goal.invariant_of-self
 invariant_of-self c =
     let x = is_due_at c.self.inside.documents c.self.inside.count c.self.inside.waiting 0 c.in-Some.entry c.self.invariant c.in-Some.ensures.first in
     subst (IsHeld c.launch.new.self c.self.inside.count) (sym c.in-Some.ensures.left)
-    (launched c.self.inside.documents c.launch.new.self c.self.inside.count c.self.inside.waiting c.in-Some.entry c.args.number c.args.place c.self.invariant x
+    (launched c.self.inside.documents c.launch.new.self c.self.inside.count c.self.inside.waiting c.in-Some.entry c.clock-now.result c.args.number c.args.place c.self.invariant x
     (c.launch.ensures.sent x.one.key x.one x.waits.0 (sym (ap (λ (e : Entry). e.slot) x.entry))) c.launch.ensures.slots c.launch.ensures.keys c.launch.ensures.unique).held
 
 pub unreachable-requires : goal.unreachable-requires
@@ -26,10 +26,11 @@ pub returns-clause-list : goal.returns-clause-list
 returns-clause-list c = λ h e.
     let x = is_due_at c.self.inside.documents c.self.inside.count c.self.inside.waiting 0 c.in-Some.entry c.self.invariant c.in-Some.ensures.first in
     let is = some_same x.one h (sym x.here ∙ ap (λ (s : Holding). slice_get (candidates_kept s.list s.clock) 0) c.self.view_is ∙ e) in
-    (launched c.self.inside.documents c.launch.new.self c.self.inside.count c.self.inside.waiting c.in-Some.entry c.args.number c.args.place c.self.invariant x
+    (launched c.self.inside.documents c.launch.new.self c.self.inside.count c.self.inside.waiting c.in-Some.entry c.clock-now.result c.args.number c.args.place c.self.invariant x
     (c.launch.ensures.sent x.one.key x.one x.waits.0 (sym (ap (λ (e : Entry). e.slot) x.entry))) c.launch.ensures.slots c.launch.ensures.keys c.launch.ensures.unique).becomes.list
-    ∙ ap (λ (y : Kept). with_first y.key (launch_one c.args.number c.args.place) (merge_of c.self.inside.documents.queues)) is
-    ∙ ap (λ (s : Holding). with_first h.key (launch_one c.args.number c.args.place) s.list) c.self.view_is
+    ∙ ap (λ (y : Kept). with_first y.key (launch_one c.clock-now.result c.args.number c.args.place) (merge_of c.self.inside.documents.queues)) is
+    ∙ ap (λ t. with_first h.key (launch_one t c.args.number c.args.place) (merge_of c.self.inside.documents.queues)) c.clock-now.ensures
+    ∙ ap (λ (s : Holding). with_first h.key (launch_one s.clock c.args.number c.args.place) s.list) c.self.view_is
 
 pub returns-clause-write : goal.returns-clause-write
 returns-clause-write c = λ h e.
