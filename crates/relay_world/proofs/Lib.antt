@@ -19,6 +19,7 @@ pub mod Posting
 pub mod Fetching
 pub mod Requesting
 pub mod Answering
+pub mod Replied
 pub mod Outcomes
 pub mod Events
 pub mod Closing
