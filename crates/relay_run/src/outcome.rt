@@ -65,8 +65,9 @@ fn add_report(text: &mut Vec<u8>, report: &Report) -> Result<(), AllocError>
     text.extend_from_slice(b"\n")
 }
 
-// Adds the line of the counts.
-fn add_counts(
+/// Adds the line of the counts: `applied N already N reported N`. `AllocError`: allocation failed;
+/// the front of the line may have been added.
+pub fn add_counts(
     text: &mut Vec<u8>,
     applied: u64,
     already: u64,

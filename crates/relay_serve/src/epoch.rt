@@ -1,4 +1,6 @@
 //! The epoch of a server.
+ghost use Rattle.std.specs.Prelude.{◌≤◌, IfOk, IfSome};
+
 use relay_action::DocKey;
 use relay_core::config::EPOCH_LIMIT;
 use relay_words::{add_number, number_of};
@@ -46,7 +48,9 @@ impl FileFault {
 }
 
 // The epoch that a text holds. An empty one holds epoch 0: none was used yet.
-fn epoch_in(text: &str) -> Option<u32> {
+fn epoch_in(text: &str) -> Option<u32>
+    ensures { IfSome result (λ epoch. epoch ≤ 4194303) }
+{
     let text = text.trim();
     if text.is_empty() {
         return Some(0);
@@ -58,7 +62,9 @@ fn epoch_in(text: &str) -> Option<u32> {
 }
 
 // The text of a file, of which at most 64 bytes are read.
-fn read_epoch(file: &mut File) -> Result<u32, FileFault> {
+fn read_epoch(file: &mut File) -> Result<u32, FileFault>
+    ensures { IfOk result (λ epoch. epoch ≤ 4194303) }
+{
     let mut bytes = [0u8; 64];
     let mut length = 0usize;
     'reads: while length < bytes.len() {
@@ -96,7 +102,9 @@ fn write_epoch(alloc: Global, file: &mut File, epoch: u32) -> Result<(), FileFau
 
 /// Raises the epoch in a file by one and returns it, with the file, which stays locked until it is
 /// dropped. A file that is absent or empty holds epoch 0.
-pub fn next_epoch(host: &HostRuntime, alloc: Global, path: &str) -> Result<(u32, File), FileFault> {
+pub fn next_epoch(host: &HostRuntime, alloc: Global, path: &str) -> Result<(u32, File), FileFault>
+    ensures { IfOk result (λ given. (1 ≤ given.0) × (given.0 ≤ 4194303)) }
+{
     let mut options = OpenOptions::new();
     options.read(true).write(true).create(true);
     let mut file = options.open(host, path).map_err(|_| FileFault::Device)?;

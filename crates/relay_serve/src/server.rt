@@ -1,8 +1,8 @@
 //! The server: where it listens, in which epoch it works, and what it says at the end.
-ghost use Rattle.std.specs.Prelude.{◌≡◌, ◌++◌, IsTrue, OnOk, decimal, string_bytes, true, vec_len};
+ghost use Rattle.std.specs.Prelude.{◌≡◌, IfOk, IsTrue, string_bytes, true, vec_len};
 ghost use Rattle.relay_core.specs.Limits.{is_valid};
 ghost use Rattle.relay_http.specs.WrittenRequest.{is_host};
-ghost use Rattle.relay_run.specs.Outcomes.{total};
+ghost use Rattle.relay_run.specs.Outcomes.{counts_line, total};
 ghost use Rattle.relay_serve.specs.Configs.{config_in};
 
 use crate::accepting::{CONNECTIONS, accept_all, await_input, wake};
@@ -17,6 +17,7 @@ use crossbeam_channel::{Sender, bounded};
 use relay_action::{ByteOut, write_all};
 use relay_epoch::{EpochFault, fault_text};
 use relay_run::leasing::lease;
+use relay_run::outcome::add_counts;
 use relay_threads::{FinishFaultKind, StartFault, Summary};
 use relay_words::{Exit, add_number};
 use std::alloc::{AllocError, Global};
@@ -153,20 +154,13 @@ fn count_all<W: Drop>(summary: Summary<W>) -> Counts
     }
 }
 
-fn add_count(text: &mut Vec<u8>, name: &str, count: u64) -> Result<(), AllocError>
-    ensures { OnOk result (text.new.items ≡ text.old.items ++ (name.now ++ decimal count)) }
-{
-    text.extend_from_slice(name.as_bytes())?;
-    add_number(text, count)
-}
-
 // The line with the counts of all lanes.
-fn counts_text(alloc: Global, counts: Counts) -> Result<Vec<u8>, AllocError> {
+fn counts_text(alloc: Global, counts: Counts) -> Result<Vec<u8>, AllocError>
+    ensures { IfOk result (λ text. text.items
+        ≡ counts_line counts.applied counts.already counts.reported) }
+{
     let mut text = Vec::new(alloc);
-    add_count(&mut text, "applied ", counts.applied)?;
-    add_count(&mut text, " already ", counts.already)?;
-    add_count(&mut text, " reported ", counts.reported)?;
-    text.push(b'\n')?;
+    add_counts(&mut text, counts.applied, counts.already, counts.reported)?;
     Ok(text)
 }
 
