@@ -145,6 +145,8 @@ def documents():
     refused(serve, server, "a coded body", 415, "content-encoding", "PUT", "/books/_doc/1", b"{}", {"Content-Encoding": "gzip"})
     refused(serve, server, "a coded bulk request", 415, "content-encoding", "POST", "/_bulk", b"{}", {"Content-Encoding": "GZIP"})
     refused(serve, server, "a coded body with a parameter", 400, "[routing]", "PUT", "/books/_doc/1?routing=x", b"{}", {"Content-Encoding": "gzip"})
+    two = b"PUT /books/_doc/1 HTTP/1.1\r\nHost: relay\r\nContent-Length: 2\r\nContent-Encoding: identity\r\nContent-Encoding: gzip\r\n\r\n{}"
+    check("a body of two codings", serve.raw(two).startswith(b"HTTP/1.1 415 "))
     check("a body whose coding is none", serve.ask("PUT", "/books/_doc/plain", b"{}", {"Content-Encoding": "identity"})[0] == 201)
     check("a coding where nothing is written", serve.whole("GET", "/", None, {"Content-Encoding": "gzip"})[0] == 200)
     status, out, err = serve.stop()

@@ -1,9 +1,10 @@
 -- What the relay says of itself to clients that ask before they write: fixed texts in OpenSearch's form (info, cluster health,
 -- compact health, nodes info), and the license of Elasticsearch's.
 use Rattle.std.specs.Prelude.{◌≡◌, ◌⊎◌, ℕ, Bool, false, not, bytes_eq, List, [], ◌++◌, codes, Option, None, Some}
+use Rattle.std.specs.List.{list_any}
 use Rattle.json.specs.Print.{quoted}
 use Rattle.http_header.specs.FieldValue.{FieldValue, IsVisibleAscii}
-use Rattle.http_header.specs.HeaderMap.{Entries, get}
+use Rattle.http_header.specs.HeaderMap.{Entries, get_all}
 use Rattle.relay_front.specs.declared.face.Face.{Face}
 use Rattle.relay_front.specs.declared.face.Face.TheVariants as face
 
@@ -35,10 +36,10 @@ IsAddress None None address = address ≡ []
 IsAddress None (Some host) address =
     (IsVisibleAscii host.bytes × (address ≡ host.bytes)) ⊎ (¬ (IsVisibleAscii host.bytes) × (address ≡ []))
 
--- a body has a coding (RFC 9110, section 8.4) other than that which says that it has none
-abbrev pub is_coding : Option FieldValue → Bool
-is_coding None = false
-is_coding (Some coding) = not (bytes_eq coding.bytes (codes "identity"))
+-- a value of `content-encoding` (RFC 9110, section 8.4) names a coding other than that which says that there is none
+abbrev pub is_coding : FieldValue → Bool
+is_coding coding = not (bytes_eq coding.bytes (codes "identity"))
 
+-- a body has a coding, whichever of the fields names it
 abbrev pub is_coded : Entries FieldValue → Bool
-is_coded fields = is_coding (get fields (codes "content-encoding"))
+is_coded fields = list_any is_coding (get_all fields (codes "content-encoding"))

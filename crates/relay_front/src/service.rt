@@ -4,7 +4,7 @@ ghost use Rattle.relay_ndjson.specs.Metadata.{bytes_given};
 ghost use Rattle.http.specs.Request.{head_of};
 ghost use Rattle.http_uri.specs.Uri.{uri_authority};
 ghost use Rattle.http_header.specs.HeaderMap.{get};
-ghost use Rattle.relay_front.specs.Faces.{IsAddress, is_coded, nodes_body};
+ghost use Rattle.relay_front.specs.Faces.{IsAddress, is_coded, is_coding, nodes_body};
 ghost use Rattle.relay_front.specs.Routes.{target_of};
 ghost use Rattle.relay_front.specs.Service.{Answers, IsReply, RepliesToReader, RepliesToRequest};
 ghost use Rattle.relay_front.specs.Service.{does_write, reply_of, status_shown};
@@ -68,14 +68,23 @@ fn does_write(route: Route<'_>) -> bool
     )
 }
 
+// Whether a value of `content-encoding` names a coding.
+fn is_coding(coding: &HeaderValue) -> bool
+    ensures { result ≡ is_coding coding.now }
+{
+    coding.as_bytes() != b"identity".as_slice()
+}
+
 // Whether the body has a coding.
 fn is_coded(request: &Request<Bytes>) -> bool
     ensures { result ≡ is_coded (head_of request.now).headers }
 {
-    match request.headers().get(header::CONTENT_ENCODING) {
-        Some(coding) => coding.as_bytes() != b"identity".as_slice(),
-        None => false,
+    'codings: for coding in request.headers().get_all(header::CONTENT_ENCODING) {
+        if is_coding(coding) {
+            return true;
+        }
     }
+    false
 }
 
 impl<'a, S: Settle, I: Ids> Front<'a, S, I> {
