@@ -38,7 +38,7 @@ test:
 	@echo "running the end-to-end tests of the benchmark's tool, of the example and of the program"
 	python3 tests/bench_tool.py crates/relay_bench/out/relay_bench
 	python3 tests/example_program.py crates/relay_example/out/relay_example
-	python3 tests/run.py crates/relay/out/relay
+	python3 tests/suites.py crates/relay/out/relay
 
 # Tests that the gate built, with each of their allocations refused in turn, and runs of the program with many refused.
 refusals:

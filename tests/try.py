@@ -17,15 +17,11 @@ import tempfile
 import time
 
 from crates import CRATES, lines_of
+from suites import REST, TIMED, TIMELESS, output_of
 
-TESTS = os.path.dirname(os.path.abspath(__file__))
 BUILD_SECONDS, TEST_SECONDS = 900, 300
 # Freed memory is used again at once, since one case compares how much memory two runs take, and a run may take longer.
 CHECKED = {**os.environ, "ASAN_OPTIONS": "quarantine_size_mb=0:thread_local_quarantine_size_kb=0", "SECONDS_FOR_A_RUN": "300", "FEWER_CASES": "1"}
-# The end-to-end suites in which time does not matter, the longest first. They run one after another, beside the test crates.
-TIMELESS = (("pick",), ("serve_clients",), ("scripts",), ("lines", "apply", "command_line"), ("world",))
-# The others run once the crates have ended, these sets of them and the rest beside each other. Each takes about as long.
-TIMED = (("stop", "reply"), ("run", "outage", "several"), ("epoch", "option", "progress"))
 # The test crates that take longest, the longest first. The others follow, those with the most crates below them first.
 LONGEST = ("relay_run_tests", "relay_telling_tests", "relay_http_tests", "relay_threads_tests", "relay_wires_tests", "relay_commands_tests")
 
@@ -88,9 +84,8 @@ def example():
 
 def suite(*words):
     """Runs a suite, and returns whether it passes, the last line that it prints, and the whole output."""
-    words = [sys.executable, os.path.join(TESTS, words[0]), *words[1:]]
-    done = subprocess.run(words, env=CHECKED, stdout=subprocess.PIPE, stderr=subprocess.STDOUT, text=True, errors="replace")
-    return done.returncode == 0, (done.stdout.strip() or "no output").split("\n")[-1], done.stdout
+    status, said = output_of(*words, env=CHECKED)
+    return status == 0, (said.strip() or "no output").split("\n")[-1], said
 
 
 def told(name, run, *given):
@@ -110,8 +105,7 @@ def beside(built, program):
 
 def timed(program):
     """Runs the other suites beside each other, and returns whether each passes."""
-    rest = ["--except", *sum(TIMELESS + TIMED, ())]
-    sets = {**{" ".join(names): names for names in TIMED}, "the others": rest}
+    sets = {**{" ".join(names): names for names in TIMED}, "the others": REST}
     with concurrent.futures.ThreadPoolExecutor(len(sets) + 1) as pool:
         running = [pool.submit(told, "tests/run.py " + name, suite, "run.py", program, *words) for name, words in sets.items()]
         running.append(pool.submit(told, "tests/http_fixtures.py", suite, "http_fixtures.py"))

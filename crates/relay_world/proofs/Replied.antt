@@ -29,9 +29,9 @@ module _ (w : World) (request : ℕ) (picks : List ℕ) (s : Sent) (kept given :
   replied l n counts settled new its_lane its_number are is_settled is_new =
       let here : IsSettledAt w s.lane s.number (Items given) counts = subst (λ m. IsSettledAt w m s.number (Items given) counts) its_lane (subst (λ m. IsSettledAt w l m (Items given) counts) its_number are) in
       let after : new ≡ after_answer w request s (Items given) =
-          is_new
-          ∙ ap (λ (x : World). record x { sent = update (request - 1) (with_answer (Items kept)) x.sent })
-              (is_settled ∙ ap (λ m. at_lane m (answered_desk n (Items given)) w) its_lane ∙ ap (λ m. at_lane s.lane (answered_desk m (Items given)) w) its_number)
-          ∙ ap (λ os. record (at_lane s.lane (answered_desk s.number (Items given)) w) { sent = update (request - 1) (with_answer (Items os)) w.sent }) (some_same kept given (sym noted ∙ told)) in
+      is_new
+      ∙ ap (λ (x : World). record x { sent = update (request - 1) (with_answer (Items kept)) x.sent })
+      (is_settled ∙ ap (λ m. at_lane m (answered_desk n (Items given)) w) its_lane ∙ ap (λ m. at_lane s.lane (answered_desk m (Items given)) w) its_number)
+      ∙ ap (λ os. record (at_lane s.lane (answered_desk s.number (Items given)) w) { sent = update (request - 1) (with_answer (Items os)) w.sent }) (some_same kept given (sym noted ∙ told)) in
       let answers : Answers w request s (Items given) (answer.Settled counts) new = record { desk = here.desk; there = here.there; counts = counts; are = here.are; matched = here.matched; after = after; says = refl } in
       subst (λ r. StepsBy r w (event.Reply request picks) (answer.Settled counts) new) (sym not_refused) (s, given, there, told, answers)

@@ -1,0 +1,44 @@
+"""Runs the end-to-end suites of `run.py`, sets of them beside each other: `make test` runs `python3 tests/suites.py PROGRAM` at the top.
+
+Most of their time is spent waiting: for limits of time, for pauses, and for servers that are down. A set's output is printed once it
+has ended. The last line is 'N passed, M failed', counted over the cases of all sets.
+"""
+import concurrent.futures
+import os
+import re
+import subprocess
+import sys
+
+TESTS = os.path.dirname(os.path.abspath(__file__))
+# The suites in which time does not matter, the longest first.
+TIMELESS = (("pick",), ("serve_clients",), ("scripts",), ("lines", "apply", "command_line"), ("world",))
+# Sets of the others, but for the rest. Each takes about as long.
+TIMED = (("stop", "reply"), ("run", "outage", "several"), ("epoch", "option", "progress"))
+REST = ("--except", *sum(TIMELESS + TIMED, ()))
+
+
+def output_of(*words, env=None):
+    """Runs a script of this folder, and returns its status and its output."""
+    words = [sys.executable, os.path.join(TESTS, words[0]), *words[1:]]
+    done = subprocess.run(words, env=env, stdout=subprocess.PIPE, stderr=subprocess.STDOUT, text=True, errors="replace")
+    return done.returncode, done.stdout
+
+
+def main(program):
+    sets, passed, failed = [*TIMED, REST, sum(TIMELESS, ())], 0, 0
+    with concurrent.futures.ThreadPoolExecutor(len(sets)) as pool:
+        running = {pool.submit(output_of, "run.py", program, *names): names for names in sets}
+        for ended in concurrent.futures.as_completed(running):
+            status, said = ended.result()
+            print("== %s\n%s" % (" ".join(running[ended]), said), end="", flush=True)
+            counts = re.search(r"^(\d+) passed, (\d+) failed\n\Z", said, re.M)
+            passed += int(counts[1]) if counts else 0
+            failed += int(counts[2]) if counts else 1
+            if status and counts and counts[2] == "0":
+                failed += 1
+    print("%d passed, %d failed" % (passed, failed))
+    sys.exit(failed != 0)
+
+
+if __name__ == "__main__":
+    main(sys.argv[1])
