@@ -1,5 +1,6 @@
 -- What is not a line of a script.
-use Rattle.std.proofs.Common.{◌≡◌, ◌≢◌, ℕ, ◌<◌, ◌^◌, List, None, Some, Result, Ok, Err, IfErr, codes, true, false, not, refl, ap, sym, ◌∙◌, subst, arith, inl, inr, unwrap_or, bytes_eq}
+use Rattle.std.proofs.Common.{◌≡◌, ◌≢◌, ℕ, ◌<◌, ◌^◌, List, None, Some, Result, Ok, Err, IfErr, codes, true, false, not, refl, ap, sym, ◌∙◌, subst, arith, inl, inr, ⊎_elim, unwrap_or, bytes_eq}
+use Rattle.std.proofs.lemmas.Slice.Eq.{bytes_eq-Decides}
 use Rattle.relay_action.specs.Faults.{key_fault, source_fault}
 use Rattle.relay_action.specs.declared.fault.ActionFault.{ActionFault}
 use Rattle.relay_action.specs.declared.fault.ActionFault.TheVariants as action
@@ -13,6 +14,7 @@ use Rattle.relay_core.specs.Limits.{is_valid}
 use Rattle.relay_core.specs.declared.config.RelayConfig.{RelayConfig}
 use Rattle.relay_ndjson.proofs.Deciding.{key_none}
 use Rattle.relay_results.proofs.Same.{bytes_eq-self}
+use Rattle.relay_results.proofs.Lists.{true_or_false}
 use Rattle.relay_scenario.specs.Words.{Begins, IsWord}
 use Rattle.relay_words.specs.Numbers.{IsNumber}
 use Rattle.relay_scenario.specs.Numbers.{AreNumbers}
@@ -29,6 +31,10 @@ differ a b e s = let h : bytes_eq a b ≡ true = rw s (bytes_eq-self b) in cc
 
 pub differ_not : (a b : List ℕ) → true ≡ not (bytes_eq a b) → a ≢ b
 differ_not a b e s = let h : bytes_eq a b ≡ true = rw s (bytes_eq-self b) in let n : true ≡ not true = rw h at e in cc
+
+-- and two that it does not
+pub same_not : (a b : List ℕ) → false ≡ not (bytes_eq a b) → a ≡ b
+same_not a b e = ⊎_elim {C = a ≡ b} (λ t. (bytes_eq-Decides a b).0 t) (λ f. let n : false ≡ not false = rw f at e in cc) (true_or_false (bytes_eq a b))
 
 no_bad : fault.Bad ≡ fault.Memory → ⊥
 no_bad e = cc
