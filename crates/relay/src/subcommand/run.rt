@@ -366,7 +366,54 @@ fn retries_of<R: Eprint>(rt: &R, matches: &ArgMatches<'_>) -> Result<Retries, Ex
     }
 }
 
-// The options as they were given, without the counter document.
+// The files to read.
+fn files_of(alloc: Global, matches: &ArgMatches<'_>) -> Result<Vec<String>, AllocError> {
+    let mut files = Vec::new(alloc);
+    for file in matches.get_strs(FILES).unwrap_or(&[]) {
+        files.push(String::from_str(alloc, file)?)?;
+    }
+    Ok(files)
+}
+
+fn config_of(
+    matches: &ArgMatches<'_>,
+    producers: usize,
+    linger: u32,
+    retries: Retries,
+) -> RelayConfig {
+    RelayConfig {
+        lanes: LANES.get_u32(matches),
+        producers: u32::try_from(producers).unwrap_or(u32::MAX),
+        capacity: CAPACITY.get_u32(matches),
+        max_held: HELD.get_u32(matches),
+        limits: Limits {
+            count: COUNT.get_u32(matches),
+            bytes: BYTES.get(matches),
+            linger,
+        },
+        attempts: retries.attempts,
+        give_up_after: retries.give_up_after,
+        in_flight: FLYING.get_u32(matches),
+        epoch: EPOCH.get_u32(matches),
+        deal: DEAL_LIMIT,
+    }
+}
+
+// Sets the options that are texts.
+fn set_texts(
+    alloc: Global,
+    matches: &ArgMatches<'_>,
+    to: &str,
+    options: &mut RunOptions,
+) -> Result<(), AllocError> {
+    options.to = String::from_str(alloc, to)?;
+    options.index = INDEX.own(alloc, matches)?;
+    options.report = REPORT.own(alloc, matches)?;
+    options.skip_invalid = SKIP_INVALID.own(alloc, matches)?;
+    Ok(())
+}
+
+// The options as they were given, without the counter document and what is said meanwhile.
 fn options_of(
     alloc: Global,
     matches: &ArgMatches<'_>,
@@ -374,44 +421,25 @@ fn options_of(
     durations: &Durations,
     retries: Retries,
 ) -> Result<RunOptions, AllocError> {
-    let mut files = Vec::new(alloc);
-    for file in matches.get_strs(FILES).unwrap_or(&[]) {
-        files.push(String::from_str(alloc, file)?)?;
-    }
-    let index = INDEX.own(alloc, matches)?;
-    let report = REPORT.own(alloc, matches)?;
-    let skip_invalid = SKIP_INVALID.own(alloc, matches)?;
-    let config = RelayConfig {
-        lanes: LANES.get_u32(matches),
-        producers: u32::try_from(files.len()).unwrap_or(u32::MAX),
-        capacity: CAPACITY.get_u32(matches),
-        max_held: HELD.get_u32(matches),
-        limits: Limits {
-            count: COUNT.get_u32(matches),
-            bytes: BYTES.get(matches),
-            linger: durations.linger,
-        },
-        attempts: retries.attempts,
-        give_up_after: retries.give_up_after,
-        in_flight: FLYING.get_u32(matches),
-        epoch: EPOCH.get_u32(matches),
-        deal: DEAL_LIMIT,
-    };
-    Ok(RunOptions {
+    let files = files_of(alloc, matches)?;
+    let config = config_of(matches, files.len(), durations.linger, retries);
+    let mut options = RunOptions {
         files,
-        to: String::from_str(alloc, to)?,
-        index,
+        to: String::new(alloc),
+        index: None,
         config,
         epoch_from: None,
         timeout: durations.timeout,
         patience: durations.patience,
-        report,
-        skip_invalid,
+        report: None,
+        skip_invalid: None,
         append: APPEND.is_given(matches),
         max_reports: MAX_REPORTS.get_u32(matches),
         progress: PROGRESS.is_given(matches),
         log: Log::Errors,
-    })
+    };
+    set_texts(alloc, matches, to, &mut options)?;
+    Ok(options)
 }
 
 // What to say while a run goes on. `None`: the value of the option is none of the three.
@@ -439,6 +467,44 @@ pub fn address_fault(fault: AddressFault) -> &'static str {
     }
 }
 
+// What is wrong with options that are valid each by itself, if anything is.
+fn fault_of(options: &RunOptions) -> Option<&'static str> {
+    if !options.is_valid() {
+        Some(NO_HOST)
+    } else if !options.reads_input_once() {
+        Some("error: '-' is standard input, and can be the FILE of one producer only")
+    } else if !options.saves_apart() {
+        Some(NOT_APART.trim_end())
+    } else if !options.leaves_apart() {
+        Some(NOT_APART_LEFT_OUT.trim_end())
+    } else {
+        None
+    }
+}
+
+// Sets the counter document, if one was named, and what is said meanwhile. If something is wrong with
+// the options, prints so, and returns the exit status.
+fn complete<R: Eprint + AllocGlobal>(
+    rt: &R,
+    matches: &ArgMatches<'_>,
+    options: &mut RunOptions,
+) -> Result<(), Exit> {
+    match counter_of(rt.alloc(), matches, &COUNTER) {
+        Ok(None) => {}
+        Ok(Some(Some(counter))) => options.epoch_from = Some(counter),
+        Ok(Some(None)) => return Err(usage(rt, NO_COUNTER)),
+        Err(_) => return Err(out_of_memory(rt)),
+    }
+    match log_of(matches) {
+        Some(log) => options.log = log,
+        None => return Err(usage(rt, "error: --log WHAT has to be errors, events or none")),
+    }
+    match fault_of(options) {
+        Some(text) => Err(usage(rt, text)),
+        None => Ok(()),
+    }
+}
+
 /// Runs it over files, sockets, standard output and standard error.
 pub fn execute<R>(rt: &R, host: HostRuntime, matches: &ArgMatches<'_>) -> Exit
 where
@@ -459,30 +525,8 @@ where
     let Ok(mut options) = options_of(rt.alloc(), matches, to, &durations, retries) else {
         return out_of_memory(rt);
     };
-    match counter_of(rt.alloc(), matches, &COUNTER) {
-        Ok(None) => {}
-        Ok(Some(Some(counter))) => options.epoch_from = Some(counter),
-        Ok(Some(None)) => return usage(rt, NO_COUNTER),
-        Err(_) => return out_of_memory(rt),
-    }
-    match log_of(matches) {
-        Some(log) => options.log = log,
-        None => return usage(rt, "error: --log WHAT has to be errors, events or none"),
-    }
-    if !options.is_valid() {
-        return usage(rt, NO_HOST);
-    }
-    if !options.reads_input_once() {
-        return usage(
-            rt,
-            "error: '-' is standard input, and can be the FILE of one producer only",
-        );
-    }
-    if !options.saves_apart() {
-        return usage(rt, NOT_APART.trim_end());
-    }
-    if !options.leaves_apart() {
-        return usage(rt, NOT_APART_LEFT_OUT.trim_end());
+    if let Err(exit) = complete(rt, matches, &mut options) {
+        return exit;
     }
     let mut out = StdStream::new(io::writer(rt));
     let mut err = StdStream::new(host.stderr());

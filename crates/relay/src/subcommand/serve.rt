@@ -299,19 +299,32 @@ fn config_of(matches: &ArgMatches<'_>, retries: Retries) -> RelayConfig {
     }
 }
 
-fn options_of(
+// Sets the options that are texts.
+fn set_texts(
     alloc: Global,
     matches: &ArgMatches<'_>,
     to: &str,
+    options: &mut ServeOptions,
+) -> Result<(), AllocError> {
+    options.listen = String::from_str(alloc, LISTEN.get(matches).unwrap_or(""))?;
+    options.to = String::from_str(alloc, to)?;
+    options.index = INDEX.own(alloc, matches)?;
+    Ok(())
+}
+
+// The options as they were given, without those that are texts.
+fn options_of(
+    alloc: Global,
+    matches: &ArgMatches<'_>,
     face: Face,
     epoch: EpochSource,
     durations: &Durations,
     retries: Retries,
-) -> Result<ServeOptions, AllocError> {
-    Ok(ServeOptions {
-        listen: String::from_str(alloc, LISTEN.get(matches).unwrap_or(""))?,
-        to: String::from_str(alloc, to)?,
-        index: INDEX.own(alloc, matches)?,
+) -> ServeOptions {
+    ServeOptions {
+        listen: String::new(alloc),
+        to: String::new(alloc),
+        index: None,
         face,
         config: config_of(matches, retries),
         epoch,
@@ -319,7 +332,7 @@ fn options_of(
         patience: durations.patience,
         within: u64::from(durations.within),
         idle: u64::from(durations.idle),
-    })
+    }
 }
 
 /// Runs it over sockets, standard input, standard output and standard error.
@@ -338,17 +351,18 @@ where
     let Some(face) = Face::named(FACE.get(matches).unwrap_or("")) else {
         return usage(rt, NO_FACE);
     };
-    let epoch = match epoch_of(rt, matches) {
-        Ok(epoch) => epoch,
-        Err(exit) => return exit,
-    };
     let retries = match retries_of(rt, matches) {
         Ok(retries) => retries,
         Err(exit) => return exit,
     };
-    let Ok(options) = options_of(rt.alloc(), matches, to, face, epoch, &durations, retries) else {
-        return out_of_memory(rt);
+    let epoch = match epoch_of(rt, matches) {
+        Ok(epoch) => epoch,
+        Err(exit) => return exit,
     };
+    let mut options = options_of(rt.alloc(), matches, face, epoch, &durations, retries);
+    if set_texts(rt.alloc(), matches, to, &mut options).is_err() {
+        return out_of_memory(rt);
+    }
     if !options.is_valid() {
         return usage(rt, NO_HOST);
     }
