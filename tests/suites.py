@@ -24,18 +24,22 @@ def output_of(*words, env=None):
     return done.returncode, done.stdout
 
 
-def main(program):
-    sets, passed, failed = [*TIMED, REST, sum(TIMELESS, ())], 0, 0
+def run_beside(program, sets):
+    """Runs these sets beside each other, prints the output of each once it has ended, and yields how many cases passed and failed."""
     with concurrent.futures.ThreadPoolExecutor(len(sets)) as pool:
         running = {pool.submit(output_of, "run.py", program, *names): names for names in sets}
         for ended in concurrent.futures.as_completed(running):
             status, said = ended.result()
             print("== %s\n%s" % (" ".join(running[ended]), said), end="", flush=True)
             counts = re.search(r"^(\d+) passed, (\d+) failed\n\Z", said, re.M)
-            passed += int(counts[1]) if counts else 0
-            failed += int(counts[2]) if counts else 1
-            if status and counts and counts[2] == "0":
-                failed += 1
+            passed, failed = map(int, counts.groups()) if counts else (0, 1)
+            yield passed, failed or status != 0
+
+
+def main(program):
+    # Those that take processor time come first, so that the others find it free.
+    counts = [*run_beside(program, TIMELESS), *run_beside(program, (*TIMED, REST))]
+    passed, failed = map(sum, zip(*counts))
     print("%d passed, %d failed" % (passed, failed))
     sys.exit(failed != 0)
 
