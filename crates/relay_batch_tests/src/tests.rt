@@ -2,6 +2,7 @@
 use relay_action::OpName;
 use relay_batch::{BatchItem, Batcher, Limits, Offer, Room, Tally};
 use std::alloc::{AllocError, Global};
+use std::process::Abort;
 use std::test::Fail;
 
 /// An item of a document, with this many bytes.
@@ -28,26 +29,25 @@ const LIMITS: Limits = Limits {
 };
 
 // Whether items taken at tick 10, offered by document and bytes, get these answers.
-fn answers(batcher: &mut Batcher, offers: &[(u64, u64, Offer)]) -> Result<bool, AllocError> {
+fn answers(rt: &impl Abort, batcher: &mut Batcher, offers: &[(u64, u64, Offer)]) -> bool {
     let mut same = true;
     for (doc, bytes, answer) in offers {
-        same &= batcher.offer(item(*doc, *bytes, 10))? == *answer;
+        same &= batcher.offer(item(*doc, *bytes, 10)).expect(rt, "memory") == *answer;
     }
-    Ok(same)
+    same
 }
 
-// Whether a batch is ready at a tick after offers with these answers; `None`: the answers differ.
+// Whether a batch is ready at a tick after offers, which get these answers.
 fn ready_after(
+    rt: &impl Abort,
     alloc: Global,
     limits: Limits,
     offers: &[(u64, u64, Offer)],
     now: u64,
-) -> Result<Option<bool>, AllocError> {
+) -> bool {
     let mut batcher = Batcher::new(alloc, limits);
-    if answers(&mut batcher, offers)? {
-        return Ok(Some(batcher.ready(now)));
-    }
-    Ok(None)
+    assert!(rt; answers(rt, &mut batcher, offers));
+    batcher.ready(now)
 }
 
 const OFFERS: &[(&[(u64, u64, Offer)], bool)] = &[
@@ -106,32 +106,32 @@ const OFFERS: &[(&[(u64, u64, Offer)], bool)] = &[
 #[test]
 fn offers_and_readiness(rt: HostRuntime) {
     for (offers, ready) in OFFERS {
-        assert!(rt; ready_after(rt.alloc(), LIMITS, offers, 10) == Ok(Some(*ready)));
+        assert!(rt; ready_after(&rt, rt.alloc(), LIMITS, offers, 10) == *ready);
     }
 }
 
 // Whether a tally gets the answers of the batch, is ready when it is, and has the same first item.
 // A tally has no documents, so it is not offered what is Busy.
-fn tallies(alloc: Global, offers: &[(u64, u64, Offer)]) -> Result<bool, AllocError> {
+fn tallies(rt: &impl Abort, alloc: Global, offers: &[(u64, u64, Offer)]) -> bool {
     let mut batcher = Batcher::new(alloc, LIMITS);
     let mut tally = Tally::new(LIMITS);
     let mut same = !tally.ready(10);
     for (doc, bytes, answer) in offers {
         let one = item(*doc, *bytes, 10);
-        same &= batcher.offer(one)? == *answer;
+        same &= batcher.offer(one).expect(rt, "memory") == *answer;
         if *answer != Offer::Busy {
             same &= tally.offer(one) == *answer;
         }
         same &= tally.ready(10) == batcher.ready(10);
         same &= tally.first() == batcher.tally().first();
     }
-    Ok(same)
+    same
 }
 
 #[test]
 fn a_tally_counts_as_the_batch(rt: HostRuntime) {
     for (offers, _) in OFFERS {
-        assert!(rt; tallies(rt.alloc(), offers) == Ok(true));
+        assert!(rt; tallies(&rt, rt.alloc(), offers));
     }
 }
 
@@ -152,7 +152,7 @@ fn bytes_have_no_end(rt: HostRuntime) {
             linger: 5,
         };
         let offers = [(1, u64::MAX, Offer::Added), (2, 0, *none), (3, 1, *one)];
-        assert!(rt; ready_after(rt.alloc(), limits, &offers, 10) == Ok(Some(true)));
+        assert!(rt; ready_after(&rt, rt.alloc(), limits, &offers, 10));
     }
 }
 
@@ -170,40 +170,31 @@ const LINGERING: &[(u32, u64, u64, bool)] = &[
     (u32::MAX, 0, 4_294_967_294, false),
 ];
 
-// Whether a batch of an item taken at a tick, and one taken at 0, is ready; `None`: the empty batch
-// was, or an item was not added.
-fn ready_of_two(
-    alloc: Global,
-    linger: u32,
-    taken_at: u64,
-    now: u64,
-) -> Result<Option<bool>, AllocError> {
+// Whether a batch of an item taken at a tick, and one taken at 0, is ready; the empty batch is not.
+fn ready_of_two(rt: &impl Abort, alloc: Global, linger: u32, taken_at: u64, now: u64) -> bool {
     let limits = Limits {
         count: 3,
         bytes: 1024,
         linger,
     };
     let mut batcher = Batcher::new(alloc, limits);
-    if batcher.ready(now)
-        || batcher.offer(item(1, 400, taken_at))? != Offer::Added
-        || batcher.offer(item(2, 400, 0))? != Offer::Added
-    {
-        return Ok(None);
-    }
-    Ok(Some(batcher.ready(now)))
+    assert!(rt; !batcher.ready(now));
+    assert!(rt; batcher.offer(item(1, 400, taken_at)) == Ok(Offer::Added));
+    assert!(rt; batcher.offer(item(2, 400, 0)) == Ok(Offer::Added));
+    batcher.ready(now)
 }
 
 // Items that are only ready because of the tick.
 #[test]
 fn lingering(rt: HostRuntime) {
     for (linger, taken_at, now, ready) in LINGERING {
-        let told = ready_of_two(rt.alloc(), *linger, *taken_at, *now);
-        assert!(rt; told == Ok(Some(*ready)));
+        let told = ready_of_two(&rt, rt.alloc(), *linger, *taken_at, *now);
+        assert!(rt; told == *ready);
     }
 }
 
 #[test]
-fn a_count_of_none_takes_one(rt: HostRuntime) -> Result<(), Fail> {
+fn a_count_of_none_takes_one(rt: HostRuntime) {
     let limits = Limits {
         count: 0,
         bytes: 1024,
@@ -211,9 +202,8 @@ fn a_count_of_none_takes_one(rt: HostRuntime) -> Result<(), Fail> {
     };
     let mut batcher = Batcher::new(rt.alloc(), limits);
     let offers = [(1, 5000, Offer::Added), (2, 0, Offer::Closed)];
-    assert!(rt; answers(&mut batcher, &offers)? && batcher.ready(0));
+    assert!(rt; answers(&rt, &mut batcher, &offers) && batcher.ready(0));
     assert!(rt; batcher.close().is_some());
-    Ok(())
 }
 
 // Whether a closed batch has exactly these items.
@@ -225,7 +215,7 @@ fn holds(batcher: Batcher, items: &[BatchItem]) -> bool {
 }
 
 #[test]
-fn a_closed_batch_holds_what_was_added(rt: HostRuntime) -> Result<(), Fail> {
+fn a_closed_batch_holds_what_was_added(rt: HostRuntime) {
     let offers = [
         (7, 400, Offer::Added),
         (7, 1, Offer::Busy),
@@ -233,9 +223,8 @@ fn a_closed_batch_holds_what_was_added(rt: HostRuntime) -> Result<(), Fail> {
         (5, 624, Offer::Added),
     ];
     let mut batcher = Batcher::new(rt.alloc(), LIMITS);
-    assert!(rt; answers(&mut batcher, &offers)?);
+    assert!(rt; answers(&rt, &mut batcher, &offers));
     assert!(rt; holds(batcher, &[item(7, 400, 10), item(5, 624, 10)]));
-    Ok(())
 }
 
 #[test]
@@ -245,13 +234,13 @@ fn an_empty_batch_is_not_closed(rt: HostRuntime) {
 
 // Whether a batch takes ten thousand items, of the documents from 0 on, and is ready only with the
 // last of them.
-fn takes_ten_thousand(batcher: &mut Batcher) -> Result<bool, AllocError> {
+fn takes_ten_thousand(batcher: &mut Batcher) -> bool {
     let mut same = true;
     for doc in 0..10_000u64 {
         same &= !batcher.ready(0);
-        same &= batcher.offer(item(doc, 1_677, 0))? == Offer::Added;
+        same &= batcher.offer(item(doc, 1_677, 0)) == Ok(Offer::Added);
     }
-    Ok(same && batcher.ready(0))
+    same && batcher.ready(0)
 }
 
 // Whether a closed batch has ten thousand items, from the first document to the last.
@@ -268,18 +257,17 @@ fn holds_ten_thousand(batcher: Batcher) -> bool {
 }
 
 #[test]
-fn ten_thousand_items(rt: HostRuntime) -> Result<(), Fail> {
+fn ten_thousand_items(rt: HostRuntime) {
     let limits = Limits {
         count: 10_000,
         bytes: 16_777_216,
         linger: 65_535,
     };
     let mut batcher = Batcher::new(rt.alloc(), limits);
-    assert!(rt; takes_ten_thousand(&mut batcher)?);
+    assert!(rt; takes_ten_thousand(&mut batcher));
     let offers = [(10_000, 0, Offer::Closed), (9_999, 0, Offer::Busy)];
-    assert!(rt; answers(&mut batcher, &offers)?);
+    assert!(rt; answers(&rt, &mut batcher, &offers));
     assert!(rt; holds_ten_thousand(batcher));
-    Ok(())
 }
 
 const ROOMS: &[(&[(u64, u64, Offer)], u32, u64)] = &[
@@ -298,13 +286,11 @@ const ROOMS: &[(&[(u64, u64, Offer)], u32, u64)] = &[
     ),
 ];
 
-// What is left of the limits after offers with these answers; `None`: the answers differ.
-fn room_after(alloc: Global, offers: &[(u64, u64, Offer)]) -> Result<Option<Room>, AllocError> {
+// What is left of the limits after offers, which get these answers.
+fn room_after(rt: &impl Abort, alloc: Global, offers: &[(u64, u64, Offer)]) -> Room {
     let mut batcher = Batcher::new(alloc, LIMITS);
-    if answers(&mut batcher, offers)? {
-        return Ok(Some(batcher.room()));
-    }
-    Ok(None)
+    assert!(rt; answers(rt, &mut batcher, offers));
+    batcher.room()
 }
 
 // What is left of the limits.
@@ -315,7 +301,7 @@ fn room_of_a_batch(rt: HostRuntime) {
             items: *items,
             bytes: *bytes,
         };
-        assert!(rt; room_after(rt.alloc(), offers) == Ok(Some(room)));
+        assert!(rt; room_after(&rt, rt.alloc(), offers) == room);
     }
 }
 
@@ -347,16 +333,15 @@ fn capped(doc: u64, cap: u32) -> BatchItem {
 }
 
 #[test]
-fn caps_close_a_batch(rt: HostRuntime) -> Result<(), Fail> {
+fn caps_close_a_batch(rt: HostRuntime) {
     let mut batcher = Batcher::new(rt.alloc(), LIMITS);
-    assert!(rt; batcher.offer(capped(1, 2))? == Offer::Added && !batcher.ready(10));
-    assert!(rt; batcher.offer(capped(2, 1))? == Offer::Closed);
-    assert!(rt; batcher.offer(capped(3, 3))? == Offer::Added && batcher.ready(10));
-    assert!(rt; batcher.offer(capped(4, 3))? == Offer::Closed && batcher.room().items == 0);
+    assert!(rt; batcher.offer(capped(1, 2)) == Ok(Offer::Added) && !batcher.ready(10));
+    assert!(rt; batcher.offer(capped(2, 1)) == Ok(Offer::Closed));
+    assert!(rt; batcher.offer(capped(3, 3)) == Ok(Offer::Added) && batcher.ready(10));
+    assert!(rt; batcher.offer(capped(4, 3)) == Ok(Offer::Closed) && batcher.room().items == 0);
     let mut alone = Batcher::new(rt.alloc(), LIMITS);
-    assert!(rt; alone.offer(capped(1, 0))? == Offer::Added && alone.ready(10));
-    assert!(rt; alone.offer(capped(2, 3))? == Offer::Closed);
-    Ok(())
+    assert!(rt; alone.offer(capped(1, 0)) == Ok(Offer::Added) && alone.ready(10));
+    assert!(rt; alone.offer(capped(2, 3)) == Ok(Offer::Closed));
 }
 
 #[test]

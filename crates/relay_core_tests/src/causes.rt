@@ -1,10 +1,10 @@
 //! What reports say of the last request that carried an operation, and of a whole request's reason.
-use crate::desk::{CONFIG, Entry, lane_of, outcomes_of, put};
+use crate::desk::{CONFIG, Entry, lane_of, outcomes_of, put_each};
 use relay_action::Text;
 use relay_core::{Cause, Lane};
 use relay_results::{LastTry, Loss};
 use std::alloc::Global;
-use std::test::Fail;
+use std::process::Abort;
 
 // How a request is answered.
 #[derive(Clone, Copy)]
@@ -14,42 +14,23 @@ enum Given<'a> {
     Items(&'a [Entry<'a>]),
 }
 
-// A reason, or none if it is empty.
-fn reason_of(alloc: Global, reason: &str) -> Result<Option<Text>, Fail> {
-    if reason.is_empty() {
-        return Ok(None);
-    }
-    Ok(Some(Text::new(alloc, reason)?))
-}
-
-// The next request is formed and answered. Whether there was one.
-fn answer(alloc: Global, lane: &mut Lane, given: Given<'_>) -> Result<bool, Fail> {
-    let Some(number) = lane.request()? else {
-        return Ok(false);
-    };
+// The next request is answered so.
+fn answer(rt: &impl Abort, alloc: Global, lane: &mut Lane, given: Given<'_>) {
+    let number = lane.request().expect(rt, "memory").expect(rt, "a request");
     let settled = match given {
         Given::Lost(why) => lane.lost(number, why),
-        Given::Whole(status, reason) if status != 200 => {
-            lane.whole(number, status, reason_of(alloc, reason)?)
+        Given::Whole(status, reason) => {
+            assert!(rt; status != 200);
+            let reason = if reason.is_empty() {
+                None
+            } else {
+                Some(Text::new(alloc, reason).expect(rt, "memory"))
+            };
+            lane.whole(number, status, reason)
         }
-        Given::Whole(_, _) => return Ok(false),
-        Given::Items(entries) => lane.reply(number, outcomes_of(alloc, entries)?),
+        Given::Items(entries) => lane.reply(number, outcomes_of(rt, alloc, entries)),
     };
-    Ok(settled.is_ok())
-}
-
-// Puts one operation, whose tries are answered so. Whether each was made.
-fn are_made(alloc: Global, lane: &mut Lane, tries: &[Given<'_>]) -> Result<bool, Fail> {
-    put(alloc, lane, 1, "a", "{}")?;
-    for given in tries {
-        if !answer(alloc, lane, *given)? {
-            return Ok(false);
-        }
-        for _ in 0..4 {
-            lane.tick();
-        }
-    }
-    Ok(true)
+    assert!(rt; settled.is_ok());
 }
 
 // What became of the last of three tries, if the first report says that there was one.
@@ -60,11 +41,22 @@ fn last_in(lane: &Lane) -> Option<LastTry> {
     }
 }
 
+// The next requests are answered so, each before four ticks pass.
+fn answer_each(rt: &impl Abort, alloc: Global, lane: &mut Lane, tries: &[Given<'_>]) {
+    for given in tries {
+        answer(rt, alloc, lane, *given);
+        for _ in 0..4 {
+            lane.tick();
+        }
+    }
+}
+
 // Puts one operation, whose three tries are answered so. What became of the last, if it is given up.
-fn last_of(alloc: Global, tries: &[Given<'_>]) -> Result<Option<LastTry>, Fail> {
-    let mut lane = lane_of(alloc, CONFIG)?;
-    let made = are_made(alloc, &mut lane, tries)?;
-    Ok(if made { last_in(&lane) } else { None })
+fn last_of(rt: &impl Abort, alloc: Global, tries: &[Given<'_>]) -> Option<LastTry> {
+    let mut lane = lane_of(rt, alloc, CONFIG);
+    put_each(rt, alloc, &mut lane, &[(1, "a", "{}")]);
+    answer_each(rt, alloc, &mut lane, tries);
+    last_in(&lane)
 }
 
 const BUSY: &[Entry<'_>] = &[Entry::Failed("a", 429)];
@@ -98,11 +90,10 @@ const LAST: &[(&[Given<'_>], LastTry)] = &[
 ];
 
 #[test]
-fn the_last_try_is_told(rt: HostRuntime) -> Result<(), Fail> {
+fn the_last_try_is_told(rt: HostRuntime) {
     for (tries, last) in LAST {
-        assert!(rt; last_of(rt.alloc(), tries)? == Some(*last));
+        assert!(rt; last_of(&rt, rt.alloc(), tries) == Some(*last));
     }
-    Ok(())
 }
 
 // The reason of the report at a place, if it is on a whole request of this status.
@@ -119,16 +110,6 @@ fn reason_at(lane: &Lane, place: usize, status: u16) -> Option<&str> {
     }
 }
 
-// A report from before, and then three operations of a request that is refused as a whole.
-fn refuses_three(alloc: Global, lane: &mut Lane, reason: &str) -> Result<bool, Fail> {
-    put(alloc, lane, 1, "x", "{}")?;
-    let before = answer(alloc, lane, Given::Whole(400, "the one before"))?;
-    put(alloc, lane, 2, "a", "{}")?;
-    put(alloc, lane, 3, "b", "")?;
-    put(alloc, lane, 4, "c", "{}")?;
-    Ok(before && answer(alloc, lane, Given::Whole(403, reason))?)
-}
-
 // Whether the reports are on whole requests, with these statuses and reasons.
 fn have_reasons(lane: &Lane, reasons: &[(u16, &str)]) -> bool {
     for at in 0..reasons.len() {
@@ -139,17 +120,23 @@ fn have_reasons(lane: &Lane, reasons: &[(u16, &str)]) -> bool {
     lane.reports().len() == reasons.len()
 }
 
-// Whether the first report of a request has this reason, and no other has.
-fn tells_first(alloc: Global, reason: &str) -> Result<bool, Fail> {
-    let mut lane = lane_of(alloc, CONFIG)?;
-    let refused = refuses_three(alloc, &mut lane, reason)?;
+const ABC: &[(u64, &str, &str)] = &[(2, "a", "{}"), (3, "b", ""), (4, "c", "{}")];
+
+// Whether of three operations of a request that is refused as a whole, after a report from before,
+// the first report has this reason, and no other has.
+fn tells_first(rt: &impl Abort, alloc: Global, reason: &str) -> bool {
+    let mut lane = lane_of(rt, alloc, CONFIG);
+    put_each(rt, alloc, &mut lane, &[(1, "x", "{}")]);
+    answer(rt, alloc, &mut lane, Given::Whole(400, "the one before"));
+    put_each(rt, alloc, &mut lane, ABC);
+    answer(rt, alloc, &mut lane, Given::Whole(403, reason));
     let reasons = &[(400, "the one before"), (403, reason), (403, ""), (403, "")];
-    Ok(refused && have_reasons(&lane, reasons))
+    have_reasons(&lane, reasons)
 }
 
 #[test]
-fn the_first_has_the_reason(rt: HostRuntime) -> Result<(), Fail> {
-    assert!(rt; tells_first(rt.alloc(), "no permissions for [indices:data/write/bulk]")?);
-    assert!(rt; tells_first(rt.alloc(), "")?);
-    Ok(())
+fn the_first_has_the_reason(rt: HostRuntime) {
+    let reason = "no permissions for [indices:data/write/bulk]";
+    assert!(rt; tells_first(&rt, rt.alloc(), reason));
+    assert!(rt; tells_first(&rt, rt.alloc(), ""));
 }

@@ -3,8 +3,8 @@ use relay_action::{Action, ActionKind, Body, DocKey, Mail, Op, Text};
 use relay_batch::Limits;
 use relay_core::{Cause, Lane, NotFlying, RelayConfig, Settled, TakeFault, Totals};
 use relay_results::{ErrorDetail, ItemError, Loss, Outcome};
-use std::alloc::{AllocError, Global};
-use std::test::Fail;
+use std::alloc::Global;
+use std::process::Abort;
 
 /// Batches of ten documents and 4,096 bytes that are sent immediately.
 pub const LIMITS: Limits = Limits {
@@ -82,92 +82,100 @@ struct Desk {
 }
 
 /// A lane with a config, which must be valid.
-pub fn lane_of(alloc: Global, config: RelayConfig) -> Result<Lane, Fail> {
-    if !config.valid() {
-        return Err("not valid")?;
-    }
-    Ok(Lane::new(alloc, config)?)
-}
-
-fn op_of(alloc: Global, number: u64, id: &str, source: &str) -> Result<Op, Fail> {
-    let key = DocKey::new(alloc, "b", id)?;
-    let action = if source.is_empty() {
-        Action::delete()
-    } else {
-        Action::index(alloc, source)?
-    };
-    Ok(Op {
-        epoch: 0,
-        producer: 0,
-        number,
-        key,
-        action,
-    })
+pub fn lane_of(rt: &impl Abort, alloc: Global, config: RelayConfig) -> Lane {
+    assert!(rt; config.valid());
+    Lane::new(alloc, config).expect(rt, "memory")
 }
 
 // Takes a message of a sender. Returns the fault, if it is not taken.
-fn take(lane: &mut Lane, sender: u32, number: u64, body: Body) -> Result<Option<TakeFault>, Fail> {
-    if sender >= lane.senders() {
-        return Err("no such sender")?;
-    }
+fn take(
+    rt: &impl Abort,
+    lane: &mut Lane,
+    sender: u32,
+    number: u64,
+    body: Body,
+) -> Option<TakeFault> {
+    assert!(rt; sender < lane.senders());
     match lane.take(Mail {
         sender,
         number,
         body,
     }) {
-        Ok(()) => Ok(None),
-        Err((fault, _)) => Ok(Some(fault)),
+        Ok(()) => None,
+        Err((fault, _)) => Some(fault),
     }
 }
 
-/// Puts an operation of the first producer.
+/// Puts an operation of the first producer; without a source it deletes. Returns the fault, if it
+/// is not taken.
 pub fn put(
+    rt: &impl Abort,
     alloc: Global,
     lane: &mut Lane,
     number: u64,
     id: &str,
     source: &str,
-) -> Result<Option<TakeFault>, Fail> {
-    let op = op_of(alloc, number, id, source)?;
-    take(lane, 0, number, Body::Put(op))
+) -> Option<TakeFault> {
+    let action = if source.is_empty() {
+        Action::delete()
+    } else {
+        Action::index(alloc, source).expect(rt, "an action")
+    };
+    let op = Op {
+        epoch: 0,
+        producer: 0,
+        number,
+        key: DocKey::new(alloc, "b", id).expect(rt, "a key"),
+        action,
+    };
+    take(rt, lane, 0, number, Body::Put(op))
+}
+
+/// Puts operations of the first producer, by their numbers, ids and sources; each is taken.
+pub fn put_each(rt: &impl Abort, alloc: Global, lane: &mut Lane, rows: &[(u64, &str, &str)]) {
+    for (number, id, source) in rows {
+        assert!(rt; put(rt, alloc, lane, *number, *id, *source).is_none());
+    }
 }
 
 // The error of an entry, if it has one.
-fn error_of(alloc: Global, entry: &Entry<'_>) -> Result<Option<ItemError>, AllocError> {
+fn error_of(rt: &impl Abort, alloc: Global, entry: &Entry<'_>) -> Option<ItemError> {
     let (kind, stored) = match *entry {
         Entry::Failed(_, _) => ("scripted_refusal", None),
         Entry::Stated(_, stored) => ("version_conflict_engine_exception", Some(stored)),
-        _ => return Ok(None),
+        _ => return None,
     };
     let detail = ErrorDetail {
-        kind: Text::new(alloc, kind)?,
+        kind: Text::new(alloc, kind).expect(rt, "memory"),
         reason: None,
         stored,
     };
-    Ok(Some(ItemError::new(alloc, detail)?))
+    Some(ItemError::new(alloc, detail).expect(rt, "memory"))
 }
 
-fn outcome_of(alloc: Global, entry: &Entry<'_>) -> Result<Outcome, AllocError> {
+fn outcome_of(rt: &impl Abort, alloc: Global, entry: &Entry<'_>) -> Outcome {
     let (kind, id, status) = match *entry {
         Entry::Index(id, status) | Entry::Failed(id, status) => (ActionKind::Index, id, status),
         Entry::Stated(id, _) => (ActionKind::Index, id, 409),
         Entry::Delete(id, status) => (ActionKind::Delete, id, status),
     };
-    Ok(Outcome {
+    Outcome {
         kind,
-        id: Text::new(alloc, id)?,
+        id: Text::new(alloc, id).expect(rt, "memory"),
         status,
-        error: error_of(alloc, entry)?,
-    })
+        error: error_of(rt, alloc, entry),
+    }
 }
 
 /// The entries of a reply.
-pub fn outcomes_of(alloc: Global, entries: &[Entry<'_>]) -> Result<Vec<Outcome>, Fail> {
-    let mut outcomes = Vec::with_capacity(alloc, entries.len())?;
+pub fn outcomes_of(rt: &impl Abort, alloc: Global, entries: &[Entry<'_>]) -> Vec<Outcome> {
+    let mut outcomes = Vec::new(alloc);
     for entry in entries {
-        outcomes.push(outcome_of(alloc, entry)?)?;
+        outcomes
+            .push(outcome_of(rt, alloc, entry))
+            .expect(rt, "memory");
     }
-    Ok(outcomes)
+    outcomes
 }
 
 // Whether a request in flight has these ids and versions, in its writes and in its items.
@@ -178,14 +186,17 @@ fn carries(lane: &Lane, number: u64, wanted: &[(&str, u64)]) -> bool {
     let Some(items) = lane.items(number) else {
         return false;
     };
-    writes.len() == wanted.len()
-        && items.len() == wanted.len()
-        && writes.iter().zip(wanted).all(|(write, row)| write.key.id() == row.0
-            && write.version == row.1)
-        && items
-            .iter()
-            .zip(wanted)
-            .all(|(item, row)| item.version == row.1)
+    if writes.len() != wanted.len() || items.len() != wanted.len() {
+        return false;
+    }
+    for i in 0..wanted.len() {
+        let (id, version) = wanted[i];
+        let (write, item) = (&writes[i], &items[i]);
+        if write.key.id() != id || write.version != version || item.version != version {
+            return false;
+        }
+    }
+    true
 }
 
 fn are_counts(answer: Result<Settled, NotFlying>, counts: &[u32; 4], matched: bool) -> bool {
@@ -205,41 +216,32 @@ fn are_counts(answer: Result<Settled, NotFlying>, counts: &[u32; 4], matched: bo
 }
 
 // Whether the next request is as expected.
-fn sends(desk: &mut Desk, wanted: &[(&str, u64)]) -> Result<bool, Fail> {
+fn sends(rt: &impl Abort, desk: &mut Desk, wanted: &[(&str, u64)]) -> bool {
     if !desk.lane.has_batch() {
-        return Ok(false);
+        return false;
     }
-    match desk.lane.request()? {
-        Some(number) => {
-            let next = desk.last.saturating_add(1);
-            desk.last = number;
-            Ok(number == next && carries(&desk.lane, number, wanted))
-        }
-        None => Ok(false),
-    }
+    let next = desk.last.saturating_add(1);
+    desk.last = desk
+        .lane
+        .request()
+        .expect(rt, "memory")
+        .expect(rt, "a request");
+    desk.last == next && carries(&desk.lane, next, wanted)
 }
 
-fn looks(desk: &mut Desk, step: &Step<'_>) -> Result<bool, Fail> {
+fn looks(rt: &impl Abort, desk: &mut Desk, step: &Step<'_>) -> bool {
     match step {
-        Step::Sends(wanted) => sends(desk, *wanted),
-        Step::SendsNone => Ok(!desk.lane.has_batch() && desk.lane.request()?.is_none()),
-        Step::Gathers(wanted) => Ok(desk.lane.is_gathering() == *wanted),
-        Step::DueIn(ticks) => Ok(desk.lane.due_in().unwrap_or(99) == *ticks),
-        Step::Held(count) => Ok(desk.lane.held() == *count),
-        Step::Finished(wanted) => Ok(desk.lane.finished() == *wanted),
-        Step::Totals(wanted) => Ok(desk.lane.totals() == *wanted),
-        _ => Ok(false),
+        Step::Sends(wanted) => sends(rt, desk, *wanted),
+        Step::SendsNone => {
+            !desk.lane.has_batch() && desk.lane.request().expect(rt, "memory").is_none()
+        }
+        Step::Gathers(wanted) => desk.lane.is_gathering() == *wanted,
+        Step::DueIn(ticks) => desk.lane.due_in().unwrap_or(99) == *ticks,
+        Step::Held(count) => desk.lane.held() == *count,
+        Step::Finished(wanted) => desk.lane.finished() == *wanted,
+        Step::Totals(wanted) => desk.lane.totals() == *wanted,
+        _ => false,
     }
-}
-
-// The result of replying to the last request with these entries.
-fn reply(
-    alloc: Global,
-    desk: &mut Desk,
-    entries: &[Entry<'_>],
-) -> Result<Result<Settled, NotFlying>, Fail> {
-    let outcomes = outcomes_of(alloc, entries)?;
-    Ok(desk.lane.reply(desk.last, outcomes))
 }
 
 // Whether no request with this number is in flight.
@@ -251,63 +253,46 @@ fn is_not_flying(alloc: Global, lane: &mut Lane, number: u64) -> bool {
         && lane.items(number).is_none()
 }
 
-fn answers(alloc: Global, desk: &mut Desk, step: &Step<'_>) -> Result<bool, Fail> {
+fn answers(rt: &impl Abort, alloc: Global, desk: &mut Desk, step: &Step<'_>) -> bool {
     let last = desk.last;
     match step {
-        Step::Items(entries, counts) => Ok(are_counts(reply(alloc, desk, *entries)?, counts, true)),
-        Step::NoMatch(entries, counts) => Ok(are_counts(
-            reply(alloc, desk, *entries)?,
-            counts,
-            false,
-        )),
-        Step::Whole(status, counts) if *status != 200 => Ok(are_counts(
-            desk.lane.whole(last, *status, None),
+        Step::Items(entries, counts) => are_counts(
+            desk.lane.reply(last, outcomes_of(rt, alloc, *entries)),
             counts,
             true,
-        )),
-        Step::Lost(counts) => Ok(are_counts(desk.lane.lost(last, Loss::Closed), counts, true)),
-        Step::NotFlying => Ok(is_not_flying(alloc, &mut desk.lane, last)),
-        _ => looks(desk, step),
+        ),
+        Step::NoMatch(entries, counts) => are_counts(
+            desk.lane.reply(last, outcomes_of(rt, alloc, *entries)),
+            counts,
+            false,
+        ),
+        Step::Whole(status, counts) if *status != 200 => {
+            are_counts(desk.lane.whole(last, *status, None), counts, true)
+        }
+        Step::Lost(counts) => are_counts(desk.lane.lost(last, Loss::Closed), counts, true),
+        Step::NotFlying => is_not_flying(alloc, &mut desk.lane, last),
+        _ => looks(rt, desk, step),
     }
 }
 
-fn plays(alloc: Global, desk: &mut Desk, step: &Step<'_>) -> Result<bool, Fail> {
+fn plays(rt: &impl Abort, alloc: Global, desk: &mut Desk, step: &Step<'_>) -> bool {
     match step {
         Step::Put(id, source) => {
             desk.puts = desk.puts.saturating_add(1);
-            Ok(put(alloc, &mut desk.lane, desk.puts, *id, *source)?.is_none())
+            put(rt, alloc, &mut desk.lane, desk.puts, *id, *source).is_none()
         }
-        Step::NotTaken(fault) => Ok(put(alloc, &mut desk.lane, 0, "x", "")? == Some(*fault)),
+        Step::NotTaken(fault) => put(rt, alloc, &mut desk.lane, 0, "x", "") == Some(*fault),
         Step::Ticks(count) => {
             for _ in 0..*count {
                 desk.lane.tick();
             }
-            Ok(true)
+            true
         }
-        Step::Tick => Ok(take(&mut desk.lane, 0, 0, Body::Tick)?.is_none()),
-        Step::Flush => Ok(take(&mut desk.lane, 0, 0, Body::Flush)?.is_none()),
-        Step::Close(sender) => Ok(take(&mut desk.lane, *sender, 0, Body::Done)?.is_none()),
-        _ => answers(alloc, desk, step),
+        Step::Tick => take(rt, &mut desk.lane, 0, 0, Body::Tick).is_none(),
+        Step::Flush => take(rt, &mut desk.lane, 0, 0, Body::Flush).is_none(),
+        Step::Close(sender) => take(rt, &mut desk.lane, *sender, 0, Body::Done).is_none(),
+        _ => answers(rt, alloc, desk, step),
     }
-}
-
-// Whether all steps have their results, one after another.
-fn played(alloc: Global, desk: &mut Desk, steps: &[Step<'_>]) -> Result<bool, Fail> {
-    for step in steps {
-        if !plays(alloc, desk, step)? {
-            return Ok(false);
-        }
-    }
-    Ok(true)
-}
-
-// A desk with a fresh lane.
-fn desk_of(alloc: Global, config: RelayConfig) -> Result<Desk, Fail> {
-    Ok(Desk {
-        lane: lane_of(alloc, config)?,
-        puts: 0,
-        last: 0,
-    })
 }
 
 // A stored version below 100, or 0 if there is none.
@@ -330,23 +315,33 @@ fn reported(lane: &Lane, place: usize) -> (u64, u8, u32) {
     }
 }
 
-// Whether a lane has exactly these reports, in order, and returns as many at its end.
-fn ends_with(lane: Lane, reports: &[(u64, u8, u32)]) -> bool {
+// Whether a lane has exactly these reports, in order.
+fn has_reports(lane: &Lane, reports: &[(u64, u8, u32)]) -> bool {
     for i in 0..reports.len() {
-        if reported(&lane, i) != reports[i] {
+        if reported(lane, i) != reports[i] {
             return false;
         }
     }
-    lane.reports().len() == reports.len() && lane.into_reports().len() == reports.len()
+    lane.reports().len() == reports.len()
 }
 
-/// Whether the steps have their results on a fresh lane, which then has these reports.
+/// Plays steps on a fresh lane: each has its result, and the lane then has these reports, and
+/// returns as many at its end.
 pub fn goes(
+    rt: &impl Abort,
     alloc: Global,
     config: RelayConfig,
     steps: &[Step<'_>],
     reports: &[(u64, u8, u32)],
-) -> Result<bool, Fail> {
-    let mut desk = desk_of(alloc, config)?;
-    Ok(played(alloc, &mut desk, steps)? && ends_with(desk.lane, reports))
+) {
+    let mut desk = Desk {
+        lane: lane_of(rt, alloc, config),
+        puts: 0,
+        last: 0,
+    };
+    for i in 0..steps.len() {
+        assert!(rt; plays(rt, alloc, &mut desk, &steps[i]), "step {i}");
+    }
+    assert!(rt; has_reports(&desk.lane, reports));
+    assert!(rt; desk.lane.into_reports().len() == reports.len());
 }

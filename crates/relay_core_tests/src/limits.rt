@@ -2,10 +2,9 @@
 use crate::desk::{CONFIG, Entry, LIMITS, Step, goes};
 use relay_batch::Limits;
 use relay_core::{RelayConfig, TakeFault};
-use std::test::Fail;
 
 // Each number one below, at and one above its limits.
-const CONFIGS: [(RelayConfig, bool); 31] = [
+const CONFIGS: &[(RelayConfig, bool)] = &[
     (RelayConfig { lanes: 0, ..CONFIG }, false),
     (RelayConfig { lanes: 8, ..CONFIG }, true),
     (RelayConfig { lanes: 9, ..CONFIG }, false),
@@ -212,7 +211,7 @@ const CONFIGS: [(RelayConfig, bool); 31] = [
 
 #[test]
 fn valid_configs(rt: HostRuntime) {
-    for (config, valid) in &CONFIGS {
+    for (config, valid) in CONFIGS {
         assert!(rt; config.valid() == *valid);
     }
 }
@@ -224,7 +223,7 @@ const ONE_HELD: RelayConfig = RelayConfig {
 };
 
 // One operation held, and one version to assign: HeldFull comes before Spent.
-const HELD_FULL: [Step<'static>; 10] = [
+const HELD_FULL: &[Step<'static>] = &[
     Step::Put("1", ""),
     Step::NotTaken(TakeFault::HeldFull),
     Step::Sends(&[("1", 1)]),
@@ -238,9 +237,8 @@ const HELD_FULL: [Step<'static>; 10] = [
 ];
 
 #[test]
-fn held_full_before_spent(rt: HostRuntime) -> Result<(), Fail> {
-    assert!(rt; goes(rt.alloc(), ONE_HELD, &HELD_FULL, &[(2, 5, 0)])?);
-    Ok(())
+fn held_full_before_spent(rt: HostRuntime) {
+    goes(&rt, rt.alloc(), ONE_HELD, HELD_FULL, &[(2, 5, 0)]);
 }
 
 const LINGERING: RelayConfig = RelayConfig {
@@ -252,7 +250,7 @@ const LINGERING: RelayConfig = RelayConfig {
 };
 
 // A batch that is not full is sent after its linger time.
-const BY_TIME: [Step<'static>; 8] = [
+const BY_TIME: &[Step<'static>] = &[
     Step::Flush,
     Step::Put("1", "{}"),
     Step::SendsNone,
@@ -265,7 +263,7 @@ const BY_TIME: [Step<'static>; 8] = [
 
 // It is sent after a flush, with what was put since; lost, it is sent again after its pause, with
 // one more.
-const BY_FLUSH: [Step<'static>; 9] = [
+const BY_FLUSH: &[Step<'static>] = &[
     Step::Put("1", "{}"),
     Step::Flush,
     Step::Put("2", "{}"),
@@ -278,7 +276,7 @@ const BY_FLUSH: [Step<'static>; 9] = [
 ];
 
 // It is sent once all have closed.
-const BY_CLOSE: [Step<'static>; 5] = [
+const BY_CLOSE: &[Step<'static>] = &[
     Step::Put("1", "{}"),
     Step::Close(0),
     Step::SendsNone,
@@ -286,14 +284,13 @@ const BY_CLOSE: [Step<'static>; 5] = [
     Step::Sends(&[("1", 1)]),
 ];
 
-const WAITING: [&'static [Step<'static>]; 3] = [&BY_TIME, &BY_FLUSH, &BY_CLOSE];
+const WAITING: &[&[Step<'static>]] = &[BY_TIME, BY_FLUSH, BY_CLOSE];
 
 #[test]
-fn batches_that_wait(rt: HostRuntime) -> Result<(), Fail> {
-    for steps in &WAITING {
-        assert!(rt; goes(rt.alloc(), LINGERING, *steps, &[])?);
+fn batches_that_wait(rt: HostRuntime) {
+    for steps in WAITING {
+        goes(&rt, rt.alloc(), LINGERING, *steps, &[]);
     }
-    Ok(())
 }
 
 const TWO_AT_ONCE: RelayConfig = RelayConfig {
@@ -306,7 +303,7 @@ const TWO_AT_ONCE: RelayConfig = RelayConfig {
 };
 
 // A batch is closed by its count and by its bytes.
-const FULL_BATCHES: [Step<'static>; 9] = [
+const FULL_BATCHES: &[Step<'static>] = &[
     Step::Put("1", "{}"),
     Step::Put("1", "{}"),
     Step::SendsNone,
@@ -322,7 +319,6 @@ const FULL_BATCHES: [Step<'static>; 9] = [
 ];
 
 #[test]
-fn batches_that_are_full(rt: HostRuntime) -> Result<(), Fail> {
-    assert!(rt; goes(rt.alloc(), TWO_AT_ONCE, &FULL_BATCHES, &[])?);
-    Ok(())
+fn batches_that_are_full(rt: HostRuntime) {
+    goes(&rt, rt.alloc(), TWO_AT_ONCE, FULL_BATCHES, &[]);
 }

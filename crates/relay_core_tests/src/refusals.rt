@@ -17,13 +17,14 @@ const DOCUMENTS: [&str; 4] = [
 /// Three versions: the fourth operation is reported as it is taken.
 const SHORT: RelayConfig = RelayConfig { deal: 3, ..CONFIG };
 
-fn lane_of(alloc: Global) -> Option<Lane> {
-    if !SHORT.valid() {
+/// A lane with a valid config, made by a second call if an allocation of the first is refused.
+pub fn made_again(alloc: Global, config: RelayConfig) -> Option<Lane> {
+    if !config.valid() {
         return None;
     }
-    match Lane::new(alloc, SHORT) {
+    match Lane::new(alloc, config) {
         Ok(lane) => Some(lane),
-        Err(AllocError) => Lane::new(alloc, SHORT).ok(),
+        Err(AllocError) => Lane::new(alloc, config).ok(),
     }
 }
 
@@ -41,6 +42,11 @@ fn mail_of(alloc: Global, number: u64, id: &str) -> Option<Mail> {
     })
 }
 
+// Whether a message of a known sender is taken.
+fn is_taken(lane: &mut Lane, mail: Mail) -> bool {
+    mail.sender < lane.senders() && lane.take(mail).is_ok()
+}
+
 /// Takes a message, by a second call if an allocation of the first failed and the lane was
 /// unchanged.
 pub fn takes(lane: &mut Lane, mail: Mail) -> bool {
@@ -51,12 +57,10 @@ pub fn takes(lane: &mut Lane, mail: Mail) -> bool {
     match lane.take(mail) {
         Ok(()) => true,
         Err((fault, back)) => {
-            fault == TakeFault::Memory
-                && lane.held() == held
+            let unchanged = lane.held() == held
                 && lane.totals() == totals
-                && lane.reports().is_empty()
-                && back.sender < lane.senders()
-                && lane.take(back).is_ok()
+                && lane.reports().is_empty();
+            is_taken(lane, back) && unchanged && fault == TakeFault::Memory
         }
     }
 }
@@ -77,16 +81,15 @@ fn puts_all(alloc: Global, lane: &mut Lane) -> Option<bool> {
 }
 
 fn filled(alloc: Global) -> Option<Lane> {
-    let mut lane = lane_of(alloc)?;
+    let mut lane = made_again(alloc, SHORT)?;
     puts_all(alloc, &mut lane)?.then_some(lane)
 }
 
 // Three operations are held, and the fourth, for which no version was left, is reported.
 #[test]
 fn refused_operations(rt: HostRuntime) {
-    let lane = filled(rt.alloc());
-    let found = lane.map(|lane| (lane.held(), lane.totals().taken, lane.reports().len()));
-    assert!(rt; found == Some((3, 4, 1)));
+    let lane = filled(rt.alloc()).expect(&rt, "four operations");
+    assert!(rt; lane.held() == 3 && lane.totals().taken == 4 && lane.reports().len() == 1);
 }
 
 /// Whether the first request is formed, by a second call if the first was refused and changed
@@ -111,12 +114,15 @@ fn is_sent(lane: &Lane) -> bool {
     let Some(writes) = lane.writes(1) else {
         return false;
     };
-    let same = writes.iter().zip(DOCUMENTS.iter().zip(1..10u64)).all(|(write, (id, version))| write
-        .key
-        .id()
-        == *id
-        && write.version == version);
-    same && writes.len() == 3
+    if writes.len() != 3 {
+        return false;
+    }
+    for i in 0..3usize {
+        if writes[i].key.id() != DOCUMENTS[i] || writes[i].version != i as u64 + 1 {
+            return false;
+        }
+    }
+    true
 }
 
 /// Batches that are sent after five ticks.
@@ -130,27 +136,22 @@ const LINGERS: RelayConfig = RelayConfig {
 
 // A lane with an operation that is not to be sent yet.
 fn gathering(alloc: Global) -> Option<Lane> {
-    if !LINGERS.valid() {
-        return None;
-    }
-    let mut lane = Lane::new(alloc, LINGERS).ok()?;
-    let mail = mail_of(alloc, 1, DOCUMENTS[0])?;
-    takes(&mut lane, mail).then_some(lane)
+    let mut lane = made_again(alloc, LINGERS)?;
+    let put = puts(alloc, &mut lane, 1, DOCUMENTS[0]) == Some(true);
+    put.then_some(lane)
 }
 
 // Without a batch to send there is no request, even if the memory of a batch is refused.
 #[test]
 fn refused_without_a_batch(rt: HostRuntime) {
-    if let Some(mut lane) = gathering(rt.alloc()) {
-        assert!(rt; !lane.has_batch() && lane.request() == Ok(None));
-    }
+    let mut lane = gathering(rt.alloc()).expect(&rt, "an operation");
+    assert!(rt; !lane.has_batch());
+    assert!(rt; lane.request() == Ok(None));
 }
 
 #[test]
 fn refused_request(rt: HostRuntime) {
-    let Some(mut lane) = filled(rt.alloc()) else {
-        assert!(rt; false);
-        return;
-    };
-    assert!(rt; sends(&mut lane) && is_sent(&lane) && lane.flying() == 1);
+    let mut lane = filled(rt.alloc()).expect(&rt, "four operations");
+    assert!(rt; sends(&mut lane));
+    assert!(rt; is_sent(&lane) && lane.flying() == 1);
 }

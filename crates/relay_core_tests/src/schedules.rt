@@ -3,8 +3,8 @@ use crate::desk::{CONFIG, Entry, Step, goes};
 use relay_batch::Limits;
 use relay_core::config::ATTEMPTS_UNLIMITED;
 use relay_core::{RelayConfig, TakeFault, Totals};
-use std::alloc::{AllocError, Global};
-use std::test::Fail;
+use std::alloc::Global;
+use std::process::Abort;
 
 // The first document is created.
 const CREATED: [Entry<'static>; 1] = [Entry::Index("1", 201)];
@@ -49,9 +49,8 @@ const THREE_THEN_ONE: &[Step<'static>] = &[
 ];
 
 #[test]
-fn three_then_one(rt: HostRuntime) -> Result<(), Fail> {
-    assert!(rt; goes(rt.alloc(), CONFIG, THREE_THEN_ONE, &[])?);
-    Ok(())
+fn three_then_one(rt: HostRuntime) {
+    goes(&rt, rt.alloc(), CONFIG, THREE_THEN_ONE, &[]);
 }
 
 // A repeat whose conflict states its own version is settled, and one whose conflict states another is
@@ -75,9 +74,8 @@ const STATED: &[Step<'static>] = &[
 ];
 
 #[test]
-fn stated_versions(rt: HostRuntime) -> Result<(), Fail> {
-    assert!(rt; goes(rt.alloc(), CONFIG, STATED, &[(2, 3, 7), (3, 3, 3)])?);
-    Ok(())
+fn stated_versions(rt: HostRuntime) {
+    goes(&rt, rt.alloc(), CONFIG, STATED, &[(2, 3, 7), (3, 3, 3)]);
 }
 
 // A lost reply, and then a conflict with its own version; a first conflict is reported.
@@ -97,9 +95,8 @@ const CONFLICTS: &[Step<'static>] = &[
 ];
 
 #[test]
-fn conflicts(rt: HostRuntime) -> Result<(), Fail> {
-    assert!(rt; goes(rt.alloc(), CONFIG, CONFLICTS, &[(2, 3, 0)])?);
-    Ok(())
+fn conflicts(rt: HostRuntime) {
+    goes(&rt, rt.alloc(), CONFIG, CONFLICTS, &[(2, 3, 0)]);
 }
 
 // The next operation of a document waits until the earlier one is settled.
@@ -118,9 +115,8 @@ const ONE_AT_A_TIME: &[Step<'static>] = &[
 ];
 
 #[test]
-fn one_of_a_document_at_a_time(rt: HostRuntime) -> Result<(), Fail> {
-    assert!(rt; goes(rt.alloc(), CONFIG, ONE_AT_A_TIME, &[])?);
-    Ok(())
+fn one_of_a_document_at_a_time(rt: HostRuntime) {
+    goes(&rt, rt.alloc(), CONFIG, ONE_AT_A_TIME, &[]);
 }
 
 const TWO_ATTEMPTS: RelayConfig = RelayConfig {
@@ -142,9 +138,8 @@ const GIVEN_UP: &[Step<'static>] = &[
 ];
 
 #[test]
-fn given_up(rt: HostRuntime) -> Result<(), Fail> {
-    assert!(rt; goes(rt.alloc(), TWO_ATTEMPTS, GIVEN_UP, &[(1, 4, 2)])?);
-    Ok(())
+fn given_up(rt: HostRuntime) {
+    goes(&rt, rt.alloc(), TWO_ATTEMPTS, GIVEN_UP, &[(1, 4, 2)]);
 }
 
 const NINE_ATTEMPTS: RelayConfig = RelayConfig {
@@ -183,24 +178,26 @@ const LOST_AT_LAST: &[Step<'static>] = &[
 
 // The steps of attempts that are lost, with these pauses between them, and then these steps.
 fn lost_steps(
+    rt: &impl Abort,
     alloc: Global,
     pauses: &[u32],
     last: &[Step<'static>],
-) -> Result<Vec<Step<'static>>, AllocError> {
-    let mut steps = Vec::from_slice(alloc, LOST)?;
+) -> Vec<Step<'static>> {
+    let mut steps = Vec::from_slice(alloc, LOST).expect(rt, "memory");
     for pause in pauses {
-        steps.extend_from_slice(&lost_after(*pause))?;
+        steps
+            .extend_from_slice(&lost_after(*pause))
+            .expect(rt, "memory");
     }
-    steps.extend_from_slice(last)?;
-    Ok(steps)
+    steps.extend_from_slice(last).expect(rt, "memory");
+    steps
 }
 
 // Nine attempts, each lost immediately: the pauses are 1, 2, 4 and so on, at most 64.
 #[test]
-fn nine_attempts(rt: HostRuntime) -> Result<(), Fail> {
-    let steps = lost_steps(rt.alloc(), &[1, 2, 4, 8, 16, 32, 64], LOST_AT_LAST)?;
-    assert!(rt; goes(rt.alloc(), NINE_ATTEMPTS, &steps, &[(1, 4, 9)])?);
-    Ok(())
+fn nine_attempts(rt: HostRuntime) {
+    let steps = lost_steps(&rt, rt.alloc(), &[1, 2, 4, 8, 16, 32, 64], LOST_AT_LAST);
+    goes(&rt, rt.alloc(), NINE_ATTEMPTS, &steps, &[(1, 4, 9)]);
 }
 
 const UNLIMITED: RelayConfig = RelayConfig {
@@ -224,10 +221,9 @@ const CREATED_AT_LAST: &[Step<'static>] = &[
 
 // Without a limit an operation is retried after its 33rd attempt too.
 #[test]
-fn attempts_without_a_limit(rt: HostRuntime) -> Result<(), Fail> {
-    let steps = lost_steps(rt.alloc(), &PAUSES, CREATED_AT_LAST)?;
-    assert!(rt; goes(rt.alloc(), UNLIMITED, &steps, &[])?);
-    Ok(())
+fn attempts_without_a_limit(rt: HostRuntime) {
+    let steps = lost_steps(&rt, rt.alloc(), &PAUSES, CREATED_AT_LAST);
+    goes(&rt, rt.alloc(), UNLIMITED, &steps, &[]);
 }
 
 // An operation that fails five ticks after its first send or later is given up.
@@ -257,9 +253,8 @@ const TOO_OLD: &[Step<'static>] = &[
 ];
 
 #[test]
-fn given_up_by_age(rt: HostRuntime) -> Result<(), Fail> {
-    assert!(rt; goes(rt.alloc(), FIVE_TICKS, TOO_OLD, &[(2, 4, 2)])?);
-    Ok(())
+fn given_up_by_age(rt: HostRuntime) {
+    goes(&rt, rt.alloc(), FIVE_TICKS, TOO_OLD, &[(2, 4, 2)]);
 }
 
 // The second document is busy.
@@ -288,16 +283,14 @@ const HALVED_WHEN_OLD: &[Step<'static>] = &[
 ];
 
 #[test]
-fn given_up_after_a_halving(rt: HostRuntime) -> Result<(), Fail> {
-    assert!(rt;
-        goes(
-            rt.alloc(),
-            FIVE_TICKS,
-            HALVED_WHEN_OLD,
-            &[(2, 4, 2), (3, 4, 2)]
-        )?
+fn given_up_after_a_halving(rt: HostRuntime) {
+    goes(
+        &rt,
+        rt.alloc(),
+        FIVE_TICKS,
+        HALVED_WHEN_OLD,
+        &[(2, 4, 2), (3, 4, 2)],
     );
-    Ok(())
 }
 
 // Replies that do not match count as lost: too few entries, another id, another kind, too many.
@@ -309,7 +302,7 @@ const NO_MATCHES: [&'static [Entry<'static>]; 4] = [
 ];
 
 #[test]
-fn replies_that_do_not_match(rt: HostRuntime) -> Result<(), Fail> {
+fn replies_that_do_not_match(rt: HostRuntime) {
     for entries in &NO_MATCHES {
         let steps = [
             Step::Put("1", "{}"),
@@ -319,9 +312,8 @@ fn replies_that_do_not_match(rt: HostRuntime) -> Result<(), Fail> {
             Step::Sends(&[("1", 1)]),
             Step::Items(&CREATED, [1, 0, 0, 0]),
         ];
-        assert!(rt; goes(rt.alloc(), CONFIG, &steps, &[])?);
+        goes(&rt, rt.alloc(), CONFIG, &steps, &[]);
     }
-    Ok(())
 }
 
 const RETRIED: [u32; 4] = [0, 0, 0, 1];
@@ -341,7 +333,7 @@ const WHOLE: [(u16, [u32; 4], &'static [(u64, u8, u32)]); 8] = [
 ];
 
 #[test]
-fn whole_answers(rt: HostRuntime) -> Result<(), Fail> {
+fn whole_answers(rt: HostRuntime) {
     for (status, counts, reports) in &WHOLE {
         let steps = [
             Step::Put("1", "{}"),
@@ -350,9 +342,8 @@ fn whole_answers(rt: HostRuntime) -> Result<(), Fail> {
             Step::NotFlying,
             Step::Held(counts[3]),
         ];
-        assert!(rt; goes(rt.alloc(), CONFIG, &steps, *reports)?);
+        goes(&rt, rt.alloc(), CONFIG, &steps, *reports);
     }
-    Ok(())
 }
 
 // An item that is refused, with an error and without one.
@@ -367,9 +358,14 @@ const REFUSED: &[Step<'static>] = &[
 ];
 
 #[test]
-fn refused_items(rt: HostRuntime) -> Result<(), Fail> {
-    assert!(rt; goes(rt.alloc(), CONFIG, REFUSED, &[(1, 1, 400), (2, 1, 400)])?);
-    Ok(())
+fn refused_items(rt: HostRuntime) {
+    goes(
+        &rt,
+        rt.alloc(),
+        CONFIG,
+        REFUSED,
+        &[(1, 1, 400), (2, 1, 400)],
+    );
 }
 
 // One attempt for each operation.
@@ -451,10 +447,9 @@ const EACH_TOO_LARGE: &[(u64, u8, u32)] = &[
 ];
 
 #[test]
-fn requests_too_large(rt: HostRuntime) -> Result<(), Fail> {
-    assert!(rt; goes(rt.alloc(), ONE_ATTEMPT, HALVED, &[])?);
-    assert!(rt; goes(rt.alloc(), ONE_ATTEMPT, HALVED_AWAY, EACH_TOO_LARGE)?);
-    Ok(())
+fn requests_too_large(rt: HostRuntime) {
+    goes(&rt, rt.alloc(), ONE_ATTEMPT, HALVED, &[]);
+    goes(&rt, rt.alloc(), ONE_ATTEMPT, HALVED_AWAY, EACH_TOO_LARGE);
 }
 
 // Batches of two, which wait for three ticks, one in flight.
@@ -503,7 +498,6 @@ const GATHERED: &[Step<'static>] = &[
 ];
 
 #[test]
-fn gathered_in_flight(rt: HostRuntime) -> Result<(), Fail> {
-    assert!(rt; goes(rt.alloc(), TWO, GATHERED, &[(3, 2, 400), (4, 2, 400)])?);
-    Ok(())
+fn gathered_in_flight(rt: HostRuntime) {
+    goes(&rt, rt.alloc(), TWO, GATHERED, &[(3, 2, 400), (4, 2, 400)]);
 }

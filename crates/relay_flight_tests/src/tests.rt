@@ -1,8 +1,9 @@
 //! Numbers, room and settling.
 use relay_action::{Action, DocKey, OpName, Write};
 use relay_batch::{Batch, BatchItem, Batcher, Limits};
-use relay_flight::{Flight, Full, Request};
+use relay_flight::{Flight, Request};
 use std::alloc::{AllocError, Global};
+use std::process::Abort;
 use std::test::Fail;
 
 // An item of a document.
@@ -34,8 +35,9 @@ pub fn gathered(alloc: Global, doc: u64) -> Result<Batcher, AllocError> {
     Ok(batcher)
 }
 
-fn batch(alloc: Global, doc: u64) -> Result<Batch, Fail> {
-    Ok(gathered(alloc, doc)?.close().ok_or("empty")?)
+fn batch(rt: &impl Abort, alloc: Global, doc: u64) -> Batch {
+    let batcher = gathered(alloc, doc).expect(rt, "memory");
+    batcher.close().expect(rt, "a batch")
 }
 
 // The one write for it: a delete whose version is the document. `None`: allocation failed.
@@ -48,10 +50,6 @@ fn deletes(alloc: Global, doc: u64) -> Option<Vec<Write>> {
         action: Action::delete(),
     });
     Some(writes)
-}
-
-fn writes(alloc: Global, doc: u64) -> Result<Vec<Write>, Fail> {
-    Ok(deletes(alloc, doc).ok_or("out of memory")?)
 }
 
 // The document of a batch's first item.
@@ -93,72 +91,49 @@ fn enter(flight: &mut Flight, batch: Batch, writes: Vec<Write>) -> Option<u64> {
 }
 
 // The number of a request with this document.
-fn number_of(flight: &mut Flight, alloc: Global, doc: u64) -> Result<Option<u64>, Fail> {
-    let writes = writes(alloc, doc)?;
-    Ok(enter(flight, batch(alloc, doc)?, writes))
-}
-
-// What is returned by a table without room, if the fault says so.
-fn refused(
-    flight: &mut Flight,
-    alloc: Global,
-    batch: Batch,
-    writes: Vec<Write>,
-) -> Result<Option<Full>, AllocError> {
-    if flight.next() > LAST {
-        return Ok(None);
-    }
-    match flight.enter(batch, writes) {
-        Ok(_) => Ok(None),
-        Err(full) => {
-            let said = format!(in alloc; "{full}")?;
-            Ok(Some(full).filter(|_| said.as_str() == "Full"))
-        }
-    }
+fn number_of(rt: &impl Abort, flight: &mut Flight, alloc: Global, doc: u64) -> Option<u64> {
+    let writes = deletes(alloc, doc).expect(rt, "memory");
+    enter(flight, batch(rt, alloc, doc), writes)
 }
 
 // Whether there is no room for a request with this document, and the fault says so and returns all
 // of it.
-fn comes_back(flight: &mut Flight, alloc: Global, doc: u64) -> Result<bool, Fail> {
-    let writes = writes(alloc, doc)?;
-    let back = refused(flight, alloc, batch(alloc, doc)?, writes)?;
-    Ok(back.is_some_and(|full| {
-        is_batch(&full.batch, doc) && are_writes(full.writes.as_slice(), doc)
-    }))
+fn comes_back(rt: &impl Abort, flight: &mut Flight, alloc: Global, doc: u64) -> bool {
+    let writes = deletes(alloc, doc).expect(rt, "memory");
+    assert!(rt; flight.next() <= LAST);
+    let full = flight
+        .enter(batch(rt, alloc, doc), writes)
+        .expect_err(rt, "no room");
+    let said = format!(in alloc; "{full}").expect(rt, "memory");
+    said.as_str() == "Full" && is_batch(&full.batch, doc) && are_writes(full.writes.as_slice(), doc)
 }
 
 // Whether the request with a number can be taken out just once, and entered again under another
 // one.
-fn goes_round(flight: &mut Flight, number: u64, doc: u64, again: u64) -> bool {
-    match flight.settle(number) {
-        Some(request) => {
-            is_whole(&request, number, doc)
-                && flight.settle(number).is_none()
-                && enter(flight, request.batch, request.writes) == Some(again)
-        }
-        None => false,
-    }
+fn goes_round(rt: &impl Abort, flight: &mut Flight, number: u64, doc: u64, again: u64) -> bool {
+    let request = flight.settle(number).expect(rt, "a request");
+    assert!(rt; is_whole(&request, number, doc));
+    assert!(rt; flight.settle(number).is_none());
+    enter(flight, request.batch, request.writes) == Some(again)
 }
 
 #[test]
-fn a_flight_of_one(rt: HostRuntime) -> Result<(), Fail> {
-    let mut flight = Flight::new(rt.alloc(), 1)?;
+fn a_flight_of_one(rt: HostRuntime) {
+    let mut flight = Flight::new(rt.alloc(), 1).expect(&rt, "memory");
     assert!(rt; flight.next() == 1 && flight.oldest().is_none());
-    assert!(rt; number_of(&mut flight, rt.alloc(), 7)? == Some(1));
-    assert!(rt; comes_back(&mut flight, rt.alloc(), 8)? && flight.flying() == 1);
-    assert!(rt; goes_round(&mut flight, 1, 7, 2));
+    assert!(rt; number_of(&rt, &mut flight, rt.alloc(), 7) == Some(1));
+    assert!(rt; comes_back(&rt, &mut flight, rt.alloc(), 8) && flight.flying() == 1);
+    assert!(rt; goes_round(&rt, &mut flight, 1, 7, 2));
     assert!(rt; flight.next() == 3 && flight.oldest() == Some(2));
-    Ok(())
 }
 
 #[test]
-fn a_flight_of_none(rt: HostRuntime) -> Result<(), Fail> {
-    let mut flight = Flight::new(rt.alloc(), 0)?;
-    assert!(rt; comes_back(&mut flight, rt.alloc(), 7)?);
+fn a_flight_of_none(rt: HostRuntime) {
+    let mut flight = Flight::new(rt.alloc(), 0).expect(&rt, "memory");
+    assert!(rt; comes_back(&rt, &mut flight, rt.alloc(), 7));
     assert!(rt; flight.next() == 1 && flight.oldest().is_none() && flight.flying() == 0);
     assert!(rt; flight.batch(1).is_none() && flight.writes(1).is_none());
     assert!(rt; flight.settle(1).is_none());
-    Ok(())
 }
 
 // A number to settle, the document of what is returned, and then the lowest number in flight and
@@ -198,30 +173,28 @@ fn settles(flight: &mut Flight, number: u64, doc: Option<u64>) -> bool {
 
 // Three requests, with the documents 7, 8 and 9.
 #[test]
-fn settling_out_of_order(rt: HostRuntime) -> Result<(), Fail> {
-    let mut flight = Flight::new(rt.alloc(), 3)?;
+fn settling_out_of_order(rt: HostRuntime) {
+    let mut flight = Flight::new(rt.alloc(), 3).expect(&rt, "memory");
     for (doc, number) in [(7, 1), (8, 2), (9, 3)] {
-        assert!(rt; number_of(&mut flight, rt.alloc(), doc)? == Some(number));
+        assert!(rt; number_of(&rt, &mut flight, rt.alloc(), doc) == Some(number));
     }
     for (number, doc, oldest, flying) in SETTLED {
         assert!(rt; settles(&mut flight, *number, *doc));
         assert!(rt; flight.oldest() == *oldest && flight.flying() == *flying && flight.next() == 4);
     }
-    Ok(())
 }
 
 // The place of a settled request is free again, and its number is not used again.
 #[test]
-fn numbers_are_not_used_again(rt: HostRuntime) -> Result<(), Fail> {
-    let mut flight = Flight::new(rt.alloc(), 2)?;
-    assert!(rt; number_of(&mut flight, rt.alloc(), 7)? == Some(1));
+fn numbers_are_not_used_again(rt: HostRuntime) {
+    let mut flight = Flight::new(rt.alloc(), 2).expect(&rt, "memory");
+    assert!(rt; number_of(&rt, &mut flight, rt.alloc(), 7) == Some(1));
     for wanted in 2..100u64 {
         assert!(rt; flight.next() == wanted);
-        assert!(rt; number_of(&mut flight, rt.alloc(), wanted)? == Some(wanted));
+        assert!(rt; number_of(&rt, &mut flight, rt.alloc(), wanted) == Some(wanted));
         assert!(rt; settles(&mut flight, wanted, Some(wanted)) && flight.oldest() == Some(1));
     }
     assert!(rt; stands(&flight, 1, Some(7)));
-    Ok(())
 }
 
 // A table, made by a second call if the first one's allocation failed.

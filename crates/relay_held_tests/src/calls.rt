@@ -2,7 +2,7 @@
 use crate::desk::{Desk, candidate, empty_desk, halve, key_of, land, launch, push, take, tick};
 use relay_held::Spot;
 use std::alloc::Global;
-use std::test::Fail;
+use std::process::Abort;
 
 // The versions of the first two operations that may be sent, or 0 if there is none.
 fn offered(desk: &mut Desk) -> [u64; 2] {
@@ -29,21 +29,17 @@ fn ticks_to(desk: &mut Desk, clock: u64) {
 }
 
 // Sends the first operation that may be sent at a tick, and returns the version of its write.
-fn sends(desk: &mut Desk, clock: u64, after: After) -> Result<u64, Fail> {
+fn sends(rt: &impl Abort, desk: &mut Desk, clock: u64, after: After) -> u64 {
     ticks_to(desk, clock);
-    let Some(write) = launch(desk, 7, 2) else {
-        return Err("none may be sent")?;
-    };
+    let write = launch(desk, 7, 2).expect(rt, "a write");
     let version = write.version;
     let landed = match after {
         After::Flies => true,
         After::Waits(due) => land(desk, due, write),
         After::WaitsUnder(due, cap) => halve(desk, due, cap, write),
     };
-    if !landed {
-        return Err("it waits already")?;
-    }
-    Ok(version)
+    assert!(rt; landed);
+    version
 }
 
 // A held operation: version, the clock of its first send, due tick, cap, sends, attempts, and its place
@@ -51,67 +47,53 @@ fn sends(desk: &mut Desk, clock: u64, after: After) -> Result<u64, Fail> {
 type First = (u64, u64, u64, u32, u32, u32, Option<Spot>);
 
 // The first operation of a document.
-fn first_of(alloc: Global, desk: &Desk, document: u64) -> Result<First, Fail> {
-    let key = key_of(alloc, document).ok_or("no key")?;
-    match desk.held.first(&key) {
-        Some(one) => Ok((
-            one.version,
-            one.since,
-            one.due,
-            one.cap,
-            one.sends,
-            one.attempts,
-            one.flies,
-        )),
-        None => Err("none is held")?,
-    }
+fn first_of(rt: &impl Abort, alloc: Global, desk: &Desk, document: u64) -> First {
+    let key = key_of(alloc, document).expect(rt, "a key");
+    let one = desk.held.first(&key).expect(rt, "an operation");
+    (
+        one.version,
+        one.since,
+        one.due,
+        one.cap,
+        one.sends,
+        one.attempts,
+        one.flies,
+    )
 }
 
 // Sends what may be sent, and takes out the first operation of a document, whose number is its version.
-fn takes(alloc: Global, desk: &mut Desk, document: u64) -> Result<Option<u64>, Fail> {
+fn takes(rt: &impl Abort, alloc: Global, desk: &mut Desk, document: u64) -> Option<u64> {
     let _ = launch(desk, 0, 0);
-    let key = key_of(alloc, document).ok_or("no key")?;
-    Ok(take(desk, &key).map(|name| name.number))
+    let key = key_of(alloc, document).expect(rt, "a key");
+    take(desk, &key).map(|name| name.number)
 }
 
 // Two operations of document 0, and one of document 1 that is due at tick 5.
-fn three(alloc: Global) -> Option<Desk> {
+fn three(rt: &impl Abort, alloc: Global) -> Desk {
     let mut three = empty_desk(alloc);
-    let held = push(alloc, &mut three, 0, 0)
-        && push(alloc, &mut three, 0, 0)
-        && push(alloc, &mut three, 1, 5);
-    held.then_some(three)
+    assert!(rt; push(alloc, &mut three, 0, 0));
+    assert!(rt; push(alloc, &mut three, 0, 0));
+    assert!(rt; push(alloc, &mut three, 1, 5));
+    three
 }
 
 // At some ticks, which may be sent, and how many looks there were by then.
 const OFFERED: &[(u64, [u64; 2], u64)] = &[(0, [1, 0], 1), (4, [1, 0], 2), (5, [1, 3], 4)];
 
-// Whether each row is so, one after another.
-fn offers_each(desk: &mut Desk, rows: &[(u64, [u64; 2], u64)]) -> bool {
+// Each row is so, one after another.
+fn offer_each(rt: &impl Abort, desk: &mut Desk, rows: &[(u64, [u64; 2], u64)]) {
     for (clock, wanted, looks) in rows {
         ticks_to(desk, *clock);
-        let due = desk.held.clock() == *clock && desk.held.due_in() == Some(0);
-        if !due || offered(desk) != *wanted || desk.held.looks() != *looks {
-            return false;
-        }
-    }
-    true
-}
-
-// Whether three are held, and offered so.
-fn offers_three(alloc: Global) -> bool {
-    match three(alloc) {
-        Some(mut desk) => {
-            let held = desk.held.len() == 3 && desk.held.documents() == 2;
-            held && offers_each(&mut desk, OFFERED)
-        }
-        None => false,
+        assert!(rt; desk.held.clock() == *clock && desk.held.due_in() == Some(0));
+        assert!(rt; offered(desk) == *wanted && desk.held.looks() == *looks);
     }
 }
 
 #[test]
 fn who_may_be_sent(rt: HostRuntime) {
-    assert!(rt; offers_three(rt.alloc()));
+    let mut desk = three(&rt, rt.alloc());
+    assert!(rt; desk.held.len() == 3 && desk.held.documents() == 2);
+    offer_each(&rt, &mut desk, OFFERED);
 }
 
 // A tick at which the first operation is sent, what happens to it then, its version, its document and
@@ -149,30 +131,19 @@ const SENT: &[Sending] = &[
     ),
 ];
 
-// Whether each row is so, one after another.
-fn sends_each(alloc: Global, desk: &mut Desk, rows: &[Sending]) -> Result<bool, Fail> {
+// Each row is so, one after another.
+fn send_each(rt: &impl Abort, alloc: Global, desk: &mut Desk, rows: &[Sending]) {
     for (clock, after, version, document, first, due) in rows {
-        let sent = sends(desk, *clock, *after)?;
-        let found = first_of(alloc, desk, *document)?;
-        if sent != *version || found != *first || desk.held.due_in() != Some(*due) {
-            return Ok(false);
-        }
-    }
-    Ok(true)
-}
-
-// Whether those of three are sent so.
-fn sends_three(alloc: Global) -> Result<bool, Fail> {
-    match three(alloc) {
-        Some(mut desk) => sends_each(alloc, &mut desk, SENT),
-        None => Ok(false),
+        assert!(rt; sends(rt, desk, *clock, *after) == *version);
+        assert!(rt; first_of(rt, alloc, desk, *document) == *first);
+        assert!(rt; desk.held.due_in() == Some(*due));
     }
 }
 
 #[test]
-fn sent_and_back(rt: HostRuntime) -> Result<(), Fail> {
-    assert!(rt; sends_three(rt.alloc())?);
-    Ok(())
+fn sent_and_back(rt: HostRuntime) {
+    let mut desk = three(&rt, rt.alloc());
+    send_each(&rt, rt.alloc(), &mut desk, SENT);
 }
 
 // A document, the number of the operation that is taken out of it, and how many operations and
@@ -184,34 +155,22 @@ const TAKEN: &[(u64, Option<u64>, (usize, usize))] = &[
     (1, Some(3), (0, 0)),
 ];
 
-// Whether each row is so, one after another.
-fn takes_each(
+// Each row is so, one after another.
+fn take_each(
+    rt: &impl Abort,
     alloc: Global,
     desk: &mut Desk,
     rows: &[(u64, Option<u64>, (usize, usize))],
-) -> Result<bool, Fail> {
+) {
     for (document, number, left) in rows {
-        let taken = takes(alloc, desk, *document)?;
-        if taken != *number || (desk.held.len(), desk.held.documents()) != *left {
-            return Ok(false);
-        }
-    }
-    Ok(true)
-}
-
-// Whether three are taken out so.
-fn takes_three(alloc: Global) -> Result<bool, Fail> {
-    match three(alloc) {
-        Some(mut desk) => {
-            ticks_to(&mut desk, 5);
-            takes_each(alloc, &mut desk, TAKEN)
-        }
-        None => Ok(false),
+        assert!(rt; takes(rt, alloc, desk, *document) == *number);
+        assert!(rt; (desk.held.len(), desk.held.documents()) == *left);
     }
 }
 
 #[test]
-fn taken_out(rt: HostRuntime) -> Result<(), Fail> {
-    assert!(rt; takes_three(rt.alloc())?);
-    Ok(())
+fn taken_out(rt: HostRuntime) {
+    let mut desk = three(&rt, rt.alloc());
+    ticks_to(&mut desk, 5);
+    take_each(&rt, rt.alloc(), &mut desk, TAKEN);
 }

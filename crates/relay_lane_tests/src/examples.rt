@@ -9,7 +9,8 @@ use relay_fixtures::desk::{Desk, closes, filled};
 use relay_fixtures::index_wire::{IndexWire, Way, wire_of};
 use relay_fixtures::notes::{NO_PAUSES, Notes};
 use relay_lane::{Cause, Lane, Loss, drain, drain_next, make_room, pump};
-use std::alloc::{AllocError, Global};
+use std::alloc::Global;
+use std::process::Abort;
 
 // The outcome of a drain: requests, pauses, reports of GaveUp after three sends and reports of the
 // status of a whole request, how many ended as applied and as already applied, and the writes that
@@ -39,52 +40,38 @@ fn reported(lane: &Lane) -> (u32, u32) {
     (gave_up, rejected)
 }
 
-fn look_at(alloc: Global, lane: &Lane, wire: &IndexWire, pace: &Notes) -> Result<Came, AllocError> {
+// What became of a lane, its wire and its pace.
+fn look_at(rt: &impl Abort, alloc: Global, lane: &Lane, wire: &IndexWire, pace: &Notes) -> Came {
     let (gave_up, rejected) = reported(lane);
     let totals = lane.totals();
-    Ok(Came {
+    Came {
         requests: totals.requests,
         pauses: pace.first,
         gave_up,
         rejected,
         applied: totals.applied,
         already: totals.already,
-        in_index: count_applied(alloc, &wire.index)?,
-    })
+        in_index: count_applied(alloc, &wire.index).expect(rt, "memory"),
+    }
 }
 
-// A lane that took an operation for each of these documents.
+// A lane that took an operation for each of these documents. `None`: an allocation failed.
 fn holding(alloc: Global, ids: &[&str]) -> Option<Desk>
     ensures { IfSome result (λ d. out_of d.lane.state ≡ []) }
 {
     filled(alloc, CONFIG, ids, "{}")
 }
 
-// Drains a closed lane, and returns whether no allocation failed.
-fn drains_once(desk: &mut Desk, wire: &mut IndexWire, pace: &mut Notes) -> bool
-    requires { option_to_list wire.old.flying ≡ out_of desk.old.lane.state }
-    ensures { option_to_list wire.new.flying ≡ out_of desk.new.lane.state }
-{
-    desk.lane.closed() && drain(&mut desk.lane, wire, pace).is_ok()
-}
-
-// The outcome of draining a lane that closes. `None`: an allocation failed, or something was held
-// afterwards.
-fn came_to(alloc: Global, desk: &mut Desk, wire: &mut IndexWire) -> Option<Came>
-    requires { option_to_list wire.old.flying ≡ out_of desk.old.lane.state }
-{
+// The outcome of draining a lane that closes, which took an operation for each of these documents,
+// over a wire of this kind.
+fn drained(rt: &impl Abort, alloc: Global, ids: &[&str], way: Way) -> Came {
+    let mut desk = holding(alloc, ids).expect(rt, "a lane");
+    let mut wire = wire_of(alloc, way);
     let mut pace = NO_PAUSES;
-    closes(desk);
-    if drains_once(desk, wire, &mut pace) && desk.lane.finished() {
-        look_at(alloc, &desk.lane, wire, &pace).ok()
-    } else {
-        None
-    }
-}
-
-// The same for a lane that took an operation for each of these documents, over a wire of this kind.
-fn drained(alloc: Global, ids: &[&str], way: Way) -> Option<Came> {
-    came_to(alloc, &mut holding(alloc, ids)?, &mut wire_of(alloc, way))
+    assert!(rt; closes(&mut desk) && desk.lane.closed());
+    drain(&mut desk.lane, &mut wire, &mut pace).expect(rt, "memory");
+    assert!(rt; desk.lane.finished());
+    look_at(rt, alloc, &desk.lane, &wire, &pace)
 }
 
 const NOTHING: Came = Came {
@@ -190,38 +177,30 @@ const DRAINS: &[(&[&str], Way, Came)] = &[
 #[test]
 fn drains(rt: HostRuntime) {
     for (ids, way, wanted) in DRAINS {
-        let found = drained(rt.alloc(), *ids, *way);
-        assert!(rt; found == Some(*wanted), "{way:?} {found:?}");
+        let found = drained(&rt, rt.alloc(), *ids, *way);
+        assert!(rt; found == *wanted, "{way:?} {found:?}");
     }
 }
 
-// How many turns it takes until a closed lane holds nothing, at most 100. `None`: an allocation
-// failed.
-fn turns_of(desk: &mut Desk, wire: &mut IndexWire) -> Option<u32>
+// How many turns it takes until a lane that closes holds nothing, at most 100.
+fn turns_of(rt: &impl Abort, desk: &mut Desk, wire: &mut IndexWire) -> u32
     requires { option_to_list wire.old.flying ≡ out_of desk.old.lane.state }
 {
     let mut pace = NO_PAUSES;
     closes(desk);
-    let mut turns = 0u32;
-    'turns: for _ in 0..100 {
-        if !takes_turn(desk, wire, &mut pace)? {
-            return Some(turns);
+    for turns in 0..100u32 {
+        assert!(rt; desk.lane.closed());
+        if !drain_next(&mut desk.lane, wire, &mut pace).expect(rt, "memory") {
+            return turns;
         }
-        turns = turns.saturating_add(1);
     }
-    None
+    panic!(rt; "more turns")
 }
 
-// One turn of a closed lane, and whether it held something. `None`: an allocation failed, or it is
-// not closed.
-fn takes_turn(desk: &mut Desk, wire: &mut IndexWire, pace: &mut Notes) -> Option<bool>
-    requires { option_to_list wire.old.flying ≡ out_of desk.old.lane.state }
-    ensures { option_to_list wire.new.flying ≡ out_of desk.new.lane.state }
-{
-    if !desk.lane.closed() {
-        return None;
-    }
-    drain_next(&mut desk.lane, wire, pace).ok()
+// The same for a lane that took an operation for each of these documents.
+fn turned(rt: &impl Abort, alloc: Global, ids: &[&str], way: Way) -> u32 {
+    let mut desk = holding(alloc, ids).expect(rt, "a lane");
+    turns_of(rt, &mut desk, &mut wire_of(alloc, way))
 }
 
 // A request that is sent is one turn, its answer another, and a pause a third; one that could not be
@@ -236,13 +215,9 @@ const TURNS: &[(&[&str], Way, u32)] = &[
 
 #[test]
 fn drains_turn_by_turn(rt: HostRuntime) {
-    let alloc = rt.alloc();
     for (ids, way, wanted) in TURNS {
-        let found = match holding(alloc, *ids) {
-            Some(mut desk) => turns_of(&mut desk, &mut wire_of(alloc, *way)),
-            None => None,
-        };
-        assert!(rt; found == Some(*wanted), "{way:?} {found:?}");
+        let found = turned(&rt, rt.alloc(), *ids, *way);
+        assert!(rt; found == *wanted, "{way:?} {found}");
     }
 }
 
@@ -276,28 +251,24 @@ const NOT_REPLIED: Came = Came {
 fn faults(rt: HostRuntime) {
     for fault in FAULTS {
         for at in 1..4u64 {
-            let sent = drained(rt.alloc(), ONE, Way::FailsSend(at, *fault));
-            let replied = drained(rt.alloc(), ONE, Way::FailsReply(at, *fault));
+            let sent = drained(&rt, rt.alloc(), ONE, Way::FailsSend(at, *fault));
+            let replied = drained(&rt, rt.alloc(), ONE, Way::FailsReply(at, *fault));
             assert!(rt;
-                sent == Some(NOT_SENT) && replied == Some(NOT_REPLIED),
+                sent == NOT_SENT && replied == NOT_REPLIED,
                 "{sent:?} {replied:?}"
             );
         }
     }
 }
 
-// The result of `pump`, the requests that were sent, and how many operations are held then.
-fn pumped_over(desk: &mut Desk, wire: &mut IndexWire) -> Option<(u64, u64, u32)>
-    requires { option_to_list wire.old.flying ≡ out_of desk.old.lane.state }
-{
+// The result of `pump`, the requests that were sent, and how many operations are held then, of a
+// lane that took these.
+fn pumped(rt: &impl Abort, alloc: Global, ids: &[&str], way: Way) -> (u64, u64, u32) {
+    let mut desk = holding(alloc, ids).expect(rt, "a lane");
+    let mut wire = wire_of(alloc, way);
     let mut pace = NO_PAUSES;
-    let sent = pump(&mut desk.lane, wire, &mut pace).ok()?;
-    Some((sent, wire.sends, desk.lane.held()))
-}
-
-// The same for a lane that took these.
-fn pumped(alloc: Global, ids: &[&str], way: Way) -> Option<(u64, u64, u32)> {
-    pumped_over(&mut holding(alloc, ids)?, &mut wire_of(alloc, way))
+    let sent = pump(&mut desk.lane, &mut wire, &mut pace).expect(rt, "memory");
+    (sent, wire.sends, desk.lane.held())
 }
 
 const PUMPS: &[(&[&str], Way, (u64, u64, u32))] = &[
@@ -318,22 +289,18 @@ const PUMPS: &[(&[&str], Way, (u64, u64, u32))] = &[
 #[test]
 fn pumps(rt: HostRuntime) {
     for (ids, way, wanted) in PUMPS {
-        assert!(rt; pumped(rt.alloc(), *ids, *way) == Some(*wanted), "{way:?}");
+        assert!(rt; pumped(&rt, rt.alloc(), *ids, *way) == *wanted, "{way:?}");
     }
 }
 
-// How many are held after room was made, the requests that were sent, and the ticks of the pauses.
-fn roomed_over(desk: &mut Desk, wire: &mut IndexWire) -> Option<(u32, u64, u64)>
-    requires { option_to_list wire.old.flying ≡ out_of desk.old.lane.state }
-{
+// How many are held after room was made in a lane that holds at most ten and took these, the
+// requests that were sent, and the ticks of the pauses.
+fn with_room(rt: &impl Abort, alloc: Global, ids: &[&str], way: Way) -> (u32, u64, u64) {
+    let mut desk = holding(alloc, ids).expect(rt, "a lane");
+    let mut wire = wire_of(alloc, way);
     let mut pace = NO_PAUSES;
-    make_room(&mut desk.lane, wire, &mut pace).ok()?;
-    Some((desk.lane.held(), wire.sends, pace.ticks))
-}
-
-// The same for a lane that holds at most ten and took these.
-fn with_room(alloc: Global, ids: &[&str], way: Way) -> Option<(u32, u64, u64)> {
-    roomed_over(&mut holding(alloc, ids)?, &mut wire_of(alloc, way))
+    make_room(&mut desk.lane, &mut wire, &mut pace).expect(rt, "memory");
+    (desk.lane.held(), wire.sends, pace.ticks)
 }
 
 const TEN_OF_ONE: &[&str] = &["1", "1", "1", "1", "1", "1", "1", "1", "1", "1"];
@@ -353,7 +320,7 @@ const ROOMS: &[(&[&str], Way, (u32, u64, u64))] = &[
 fn makes_room(rt: HostRuntime) {
     for (ids, way, wanted) in ROOMS {
         assert!(rt;
-            with_room(rt.alloc(), *ids, *way) == Some(*wanted),
+            with_room(&rt, rt.alloc(), *ids, *way) == *wanted,
             "{way:?}"
         );
     }
@@ -367,6 +334,14 @@ fn holding_at_last(alloc: Global, ids: &[&str]) -> Option<Desk>
         Some(desk) => Some(desk),
         None => holding(alloc, ids),
     }
+}
+
+// Drains a closed lane, and returns whether no allocation failed.
+fn drains_once(desk: &mut Desk, wire: &mut IndexWire, pace: &mut Notes) -> bool
+    requires { option_to_list wire.old.flying ≡ out_of desk.old.lane.state }
+    ensures { option_to_list wire.new.flying ≡ out_of desk.new.lane.state }
+{
+    desk.lane.closed() && drain(&mut desk.lane, wire, pace).is_ok()
 }
 
 // Whether draining a lane that closes succeeds; or it has lost nothing, and the next drain

@@ -7,10 +7,9 @@ ghost use Rattle.relay_lane_tests.specs.Shown.{SettlesLosses};
 
 use relay_action::Write;
 use relay_fixtures::config::CONFIG;
-use relay_fixtures::desk::{Desk, closes, desk_of, puts};
+use relay_fixtures::desk::{closes, desk_of, puts};
 use relay_fixtures::notes::NO_PAUSES;
 use relay_lane::{Cause, Lane, Loss, Wire, WireReply, drain};
-use std::test::Fail;
 
 #[derive(Drop)]
 struct Losing {
@@ -55,13 +54,6 @@ fn empties(lane: &mut Lane, wire: &mut Losing) -> bool
     drain(lane, wire, &mut pace).is_ok()
 }
 
-// The same for a lane that may be open, which is left as it is.
-fn drains(desk: &mut Desk, wire: &mut Losing) -> bool
-    requires { option_to_list wire.old.flying ≡ out_of desk.old.lane.state }
-{
-    desk.lane.closed() && empties(&mut desk.lane, wire)
-}
-
 // Whether each report says that an operation was given up after three sends.
 fn gave_up(lane: &Lane) -> bool {
     for report in lane.reports() {
@@ -74,11 +66,10 @@ fn gave_up(lane: &Lane) -> bool {
 
 // It loses each request, so each operation is reported.
 #[test]
-fn loses(rt: HostRuntime) -> Result<(), Fail> {
-    let mut desk = desk_of(rt.alloc(), CONFIG).ok_or("not valid")?;
+fn loses(rt: HostRuntime) {
+    let mut desk = desk_of(rt.alloc(), CONFIG).expect(&rt, "a lane");
     let mut wire = Losing { flying: None };
     assert!(rt; puts(rt.alloc(), &mut desk, 1, "1", "{}") && closes(&mut desk));
-    assert!(rt; drains(&mut desk, &mut wire));
+    assert!(rt; desk.lane.closed() && empties(&mut desk.lane, &mut wire));
     assert!(rt; desk.lane.finished() && desk.lane.totals().requests == 3 && gave_up(&desk.lane));
-    Ok(())
 }

@@ -12,6 +12,7 @@ use relay_fixtures::notes::NO_PAUSES;
 use relay_index::Index;
 use relay_lane::{Lane, RelayConfig, drain, drain_next, make_room, pump, send_ready, settle_next};
 use std::alloc::{AllocError, Global};
+use std::process::Abort;
 
 /// Room for the first three operations only.
 const SMALL: RelayConfig = RelayConfig {
@@ -27,15 +28,25 @@ const IDS: [&str; 4] = [
     "the fourth document of more than thirty-eight bytes",
 ];
 
+// Puts the first three operations.
+fn puts_three(alloc: Global, desk: &mut Desk) -> bool
+    ensures { out_of desk.new.lane.state ≡ out_of desk.old.lane.state }
+{
+    puts(alloc, desk, 1, IDS[0], IDS[0])
+        && puts(alloc, desk, 2, IDS[1], IDS[1])
+        && puts(alloc, desk, 3, IDS[2], IDS[2])
+}
+
 // A desk whose lane holds the first three operations.
 fn desk_once(alloc: Global) -> Option<Desk>
     ensures { IfSome result (λ d. out_of d.lane.state ≡ []) }
 {
     let mut desk = desk_of(alloc, SMALL)?;
-    let held = puts(alloc, &mut desk, 1, IDS[0], IDS[0])
-        && puts(alloc, &mut desk, 2, IDS[1], IDS[1])
-        && puts(alloc, &mut desk, 3, IDS[2], IDS[2]);
-    if held { Some(desk) } else { None }
+    if puts_three(alloc, &mut desk) {
+        Some(desk)
+    } else {
+        None
+    }
 }
 
 // The same, made again if an allocation is refused.
@@ -180,29 +191,38 @@ fn puts_fourth(alloc: Global, desk: &mut Desk) -> bool
     puts(alloc, desk, 4, IDS[3], IDS[3]) || puts(alloc, desk, 4, IDS[3], IDS[3])
 }
 
-// Whether four operations are applied, the first three by a pump or by a request and its answer.
-fn works(alloc: Global, by_pump: bool) -> Option<bool> {
-    let mut desk = made_again(alloc)?;
+// Whether four operations ended as applied, and none is held or reported.
+fn applied_four(lane: &Lane) -> bool {
+    let totals = lane.totals();
+    totals.applied.saturating_add(totals.already) == 4
+        && lane.held() == 0
+        && lane.reports().is_empty()
+}
+
+// Whether a lane settles four operations, the first three by a pump or by a request and its answer.
+fn works(alloc: Global, desk: &mut Desk, wire: &mut IndexWire, by_pump: bool) -> bool
+    requires { option_to_list wire.old.flying ≡ out_of desk.old.lane.state }
+{
+    settles_first(&mut desk.lane, wire, by_pump)
+        && makes_room(&mut desk.lane, wire)
+        && puts_fourth(alloc, desk)
+        && closes(desk)
+        && turns(&mut desk.lane, wire)
+        && drains(&mut desk.lane, wire)
+}
+
+// The same for a lane of its own: four operations are applied.
+fn applies_four(rt: &impl Abort, alloc: Global, by_pump: bool) {
+    let mut desk = made_again(alloc).expect(rt, "three operations");
     let mut wire = wire_of(alloc, Way::Runs);
-    let good = settles_first(&mut desk.lane, &mut wire, by_pump)
-        && makes_room(&mut desk.lane, &mut wire)
-        && puts_fourth(alloc, &mut desk)
-        && closes(&mut desk)
-        && turns(&mut desk.lane, &mut wire)
-        && drains(&mut desk.lane, &mut wire);
-    let totals = desk.lane.totals();
-    let settled = totals.applied.saturating_add(totals.already);
-    Some(
-        good && settled == 4
-            && desk.lane.held() == 0
-            && desk.lane.reports().is_empty()
-            && is_whole(alloc, &wire.index)?,
-    )
+    assert!(rt; works(alloc, &mut desk, &mut wire, by_pump));
+    assert!(rt; applied_four(&desk.lane));
+    assert!(rt; is_whole(alloc, &wire.index) == Some(true));
 }
 
 #[test]
 fn refused_turns(rt: HostRuntime) {
     for by_pump in [true, false] {
-        assert!(rt; works(rt.alloc(), by_pump) == Some(true));
+        applies_four(&rt, rt.alloc(), by_pump);
     }
 }

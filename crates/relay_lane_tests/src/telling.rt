@@ -1,7 +1,6 @@
 //! A wire to an index that describes the outside: the index runs each request once, and some of the
 //! replies are lost.
 ghost use Rattle.relay_lane.specs.Out.{out_of};
-ghost use Rattle.std.specs.Option.{option_to_list};
 ghost use Rattle.std.specs.Prelude.{◌≡◌, None};
 
 use relay_action::Write;
@@ -15,7 +14,6 @@ use relay_lane::{Loss, Wire, WireReply, drain};
 use relay_results::Outcome;
 use std::alloc::Global;
 use std::mem;
-use std::test::Fail;
 
 #[derive(Drop)]
 struct Telling {
@@ -66,17 +64,6 @@ impl Wire for Telling {
     }
 }
 
-// Drains a closed lane, and returns whether no allocation failed.
-fn drains(desk: &mut Desk, wire: &mut Telling) -> bool
-    requires { option_to_list wire.old.flying ≡ out_of desk.old.lane.state }
-{
-    let mut pace = NO_PAUSES;
-    if !desk.lane.closed() {
-        return false;
-    }
-    drain(&mut desk.lane, wire, &mut pace).is_ok()
-}
-
 // A wire with an empty index.
 fn empty(alloc: Global) -> Telling
     ensures { result.flying ≡ None }
@@ -102,21 +89,16 @@ fn closes_with_three(alloc: Global, desk: &mut Desk) -> bool
     closes(desk)
 }
 
-// Whether three operations of one document are sent by five requests, and applied once each.
-fn applies_once(alloc: Global, desk: &mut Desk, wire: &mut Telling) -> bool
-    requires { option_to_list wire.old.flying ≡ out_of desk.old.lane.state }
-{
-    closes_with_three(alloc, desk)
-        && drains(desk, wire)
-        && desk.lane.finished()
-        && desk.lane.totals().requests == 5
-        && count_applied(alloc, &wire.index) == Ok(3)
-}
-
-// Every other reply is lost, and everything is applied once.
+// Three operations of one document are sent by five requests, since every other reply is lost, and
+// everything is applied once.
 #[test]
-fn tells(rt: HostRuntime) -> Result<(), Fail> {
-    let mut desk = desk_of(rt.alloc(), CONFIG).ok_or("not valid")?;
-    assert!(rt; applies_once(rt.alloc(), &mut desk, &mut empty(rt.alloc())));
-    Ok(())
+fn tells(rt: HostRuntime) {
+    let alloc = rt.alloc();
+    let mut desk = desk_of(alloc, CONFIG).expect(&rt, "a lane");
+    let mut wire = empty(alloc);
+    let mut pace = NO_PAUSES;
+    assert!(rt; closes_with_three(alloc, &mut desk) && desk.lane.closed());
+    drain(&mut desk.lane, &mut wire, &mut pace).expect(&rt, "memory");
+    assert!(rt; desk.lane.finished() && desk.lane.totals().requests == 5);
+    assert!(rt; count_applied(alloc, &wire.index) == Ok(3));
 }

@@ -2,7 +2,6 @@
 use crate::script::{Row, Says, THREE, lasts};
 use relay_core::RelayConfig;
 use relay_world::Refusal;
-use std::test::Fail;
 
 const SMALL: RelayConfig = RelayConfig {
     lanes: 2,
@@ -38,9 +37,8 @@ const OF_SENDERS: [(Row<'static>, Says); 22] = [
 ];
 
 #[test]
-fn of_senders(rt: HostRuntime) -> Result<(), Fail> {
-    assert!(rt; lasts(rt.alloc(), SMALL, &OF_SENDERS, &[], &[], false)?);
-    Ok(())
+fn of_senders(rt: HostRuntime) {
+    assert!(rt; lasts(&rt, rt.alloc(), SMALL, &OF_SENDERS, &[], &[], false));
 }
 
 /// Events of requests that were not sent, are no longer in flight, or have no such item.
@@ -69,7 +67,16 @@ const OF_REQUESTS: [(Row<'static>, Says); 21] = [
 ];
 
 #[test]
-fn of_requests(rt: HostRuntime) -> Result<(), Fail> {
-    assert!(rt; lasts(rt.alloc(), THREE, &OF_REQUESTS, &[("1", &[1])], &[], false)?);
-    Ok(())
+fn of_requests(rt: HostRuntime) {
+    assert!(rt;
+        lasts(
+            &rt,
+            rt.alloc(),
+            THREE,
+            &OF_REQUESTS,
+            &[("1", &[1])],
+            &[],
+            false
+        )
+    );
 }

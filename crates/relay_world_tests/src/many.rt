@@ -6,7 +6,7 @@ use relay_core::RelayConfig;
 use relay_index::Choice;
 use relay_world::{Event, World};
 use std::alloc::Global;
-use std::test::Fail;
+use std::process::Abort;
 
 const PRODUCERS: u32 = 16;
 
@@ -28,32 +28,23 @@ const MOST: RelayConfig = RelayConfig {
     ..THREE
 };
 
-/// Puts a delete of a document, and returns whether it was accepted.
-fn puts(alloc: Global, world: &mut World, producer: u32, id: &str) -> Result<bool, Fail> {
-    let key = DocKey::new(alloc, "books", id)?;
-    Ok(accepts(world, &Event::Put(producer, key, Action::delete())))
-}
-
 /// Each producer puts a delete of each document.
-fn puts_all(alloc: Global, world: &mut World) -> Result<bool, Fail> {
-    let mut good = true;
+fn puts_all(rt: &impl Abort, alloc: Global, world: &mut World) {
     for producer in 0..PRODUCERS {
         for id in IDS {
-            good = puts(alloc, world, producer, id)? && good;
+            let key = DocKey::new(alloc, "books", id).expect(rt, "a key");
+            assert!(rt; accepts(world, &Event::Put(producer, key, Action::delete())));
         }
     }
-    Ok(good)
 }
 
 /// Closes each sender at each lane.
-fn closes_all(world: &mut World) -> bool {
-    let mut good = true;
+fn closes_all(rt: &impl Abort, world: &mut World) {
     for lane in 0..LANES {
         for sender in 0..17u32 {
-            good = accepts(world, &Event::Close(sender, lane)) && good;
+            assert!(rt; accepts(world, &Event::Close(sender, lane)));
         }
     }
-    good
 }
 
 /// Each lane takes what is queued for it.
@@ -95,55 +86,41 @@ fn works(alloc: Global, world: &mut World, before: u64) -> u64 {
 
 /// How many operations were accepted from all producers, and how many writes were applied to all
 /// documents.
-fn counted(alloc: Global, world: &World) -> Result<(usize, usize), Fail> {
+fn counted(rt: &impl Abort, alloc: Global, world: &World) -> (usize, usize) {
     let mut accepted: usize = 0;
     for producer in 0..PRODUCERS {
         accepted = accepted.saturating_add(world.accepted(producer).len());
     }
     let mut applied: usize = 0;
     for id in IDS {
-        let key = DocKey::new(alloc, "books", id)?;
+        let key = DocKey::new(alloc, "books", id).expect(rt, "a key");
         applied = applied.saturating_add(world.names(&key).len());
     }
-    Ok((accepted, applied))
+    (accepted, applied)
 }
 
 /// The control ticks at each lane.
-fn ticks_all(world: &mut World) -> bool {
-    let mut good = true;
+fn ticks_all(rt: &impl Abort, world: &mut World) {
     for lane in 0..LANES {
-        good = accepts(world, &Event::Tick(lane)) && good;
+        assert!(rt; accepts(world, &Event::Tick(lane)));
     }
-    good
 }
 
-/// Puts, takes and sends everything; the reply of request 1 is lost, so its operations are sent
-/// once more, a tick later. Returns whether all went like this.
-fn works_off(alloc: Global, world: &mut World) -> Result<bool, Fail> {
-    let put = puts_all(alloc, world)?;
-    takes_all(world);
-    let requests = works(alloc, world, 0);
-    let ticked = ticks_all(world);
-    takes_all(world);
-    Ok(put && ticked && works(alloc, world, requests) > requests)
-}
-
-/// Whether everything is done, all senders close, the world is finished once that is taken and not
-/// before, and each operation was accepted and applied once.
-fn finishes(alloc: Global, world: &mut World) -> Result<bool, Fail> {
-    let open = works_off(alloc, world)? && closes_all(world) && !world.finished();
-    takes_all(world);
-    Ok(open && world.finished() && counted(alloc, world)? == (128, 128))
-}
-
-/// Whether a fresh world does this.
-fn works_in_eight_lanes(alloc: Global) -> Result<bool, Fail> {
-    let mut world = world_of(alloc, MOST)?;
-    finishes(alloc, &mut world)
-}
-
+// Everything is put, taken and sent; the reply of request 1 is lost, so its operations are sent once
+// more, a tick later. All senders close, the world is finished once that is taken and not before, and
+// each operation was accepted and applied once.
 #[test]
-fn eight_lanes(rt: HostRuntime) -> Result<(), Fail> {
-    assert!(rt; works_in_eight_lanes(rt.alloc())?);
-    Ok(())
+fn eight_lanes(rt: HostRuntime) {
+    let alloc = rt.alloc();
+    let mut world = world_of(&rt, alloc, MOST);
+    puts_all(&rt, alloc, &mut world);
+    takes_all(&mut world);
+    let requests = works(alloc, &mut world, 0);
+    ticks_all(&rt, &mut world);
+    takes_all(&mut world);
+    assert!(rt; works(alloc, &mut world, requests) > requests);
+    closes_all(&rt, &mut world);
+    assert!(rt; !world.finished());
+    takes_all(&mut world);
+    assert!(rt; world.finished() && counted(&rt, alloc, &world) == (128, 128));
 }

@@ -8,6 +8,7 @@ use relay_fixtures::keys::key_of;
 use relay_index::Index;
 use relay_world::{Event, StepAnswer, World};
 use std::alloc::{AllocError, Global};
+use std::process::Abort;
 
 fn world_of(alloc: Global, config: RelayConfig) -> Option<World> {
     if !config.valid() {
@@ -116,19 +117,19 @@ fn keys_of(world: &World) -> Option<Vec<DocKey>> {
     }
 }
 
-// Whether rows get the expected answers, and this many documents have writes then.
-fn steps_rows(alloc: Global, rows: &[(Row<'_>, Says)], documents: usize) -> Option<bool> {
-    let mut world = world_of(alloc, THREE)?;
-    let key = key_of(alloc, "b", "1")?;
-    let good = steps_through(alloc, &mut world, rows, &key)?;
-    let keys = keys_of(&world)?;
-    Some(good && keys.len() == documents && world.applied(&key).len() == 1)
+// Rows get the expected answers, and this many documents have writes then.
+fn steps_rows(rt: &impl Abort, alloc: Global, rows: &[(Row<'_>, Says)], documents: usize) {
+    let mut world = world_of(alloc, THREE).expect(rt, "a world");
+    let key = key_of(alloc, "b", "1").expect(rt, "a key");
+    assert!(rt; steps_through(alloc, &mut world, rows, &key) == Some(true));
+    let keys = keys_of(&world).expect(rt, "keys");
+    assert!(rt; keys.len() == documents && world.applied(&key).len() == 1);
 }
 
 #[test]
 fn refused_steps(rt: HostRuntime) {
-    assert!(rt; steps_rows(rt.alloc(), &LONG, 2) == Some(true));
-    assert!(rt; steps_rows(rt.alloc(), &THREE_THEN_ONE, 3) == Some(true));
+    steps_rows(&rt, rt.alloc(), &LONG, 2);
+    steps_rows(&rt, rt.alloc(), &THREE_THEN_ONE, 3);
 }
 
 // Plays events. If one is refused, it continues with that one.
@@ -143,33 +144,31 @@ fn runs(world: &mut World, events: &[Event]) -> Option<bool> {
     }
 }
 
-// Whether the events of rows leave a world with this many accepted operations, and with this
-// outcome.
+// The events of rows leave a world with this many accepted operations, and with this outcome.
 fn runs_rows(
+    rt: &impl Abort,
     alloc: Global,
     config: RelayConfig,
     rows: &[(Row<'_>, Says)],
     accepted: usize,
     ends: Ends,
     finished: bool,
-) -> Option<bool> {
+) {
     let events = events_of(alloc, rows)
         .or_else(|_| events_of(alloc, rows))
-        .ok()?;
-    let mut world = world_of(alloc, config)?;
-    let good = runs(&mut world, events.as_slice())?;
+        .expect(rt, "events");
+    let mut world = world_of(alloc, config).expect(rt, "a world");
+    assert!(rt; runs(&mut world, events.as_slice()) == Some(true));
     let (applied, reports) = ends;
-    let ended = ends_with(alloc, &world, applied, reports, finished).ok()?;
-    Some(good && ended && world.accepted(0).len() == accepted)
+    assert!(rt; ends_with(alloc, &world, applied, reports, finished) == Ok(true));
+    assert!(rt; world.accepted(0).len() == accepted);
 }
 
 #[test]
 fn refused_schedules(rt: HostRuntime) {
     let alloc = rt.alloc();
-    let finished = runs_rows(alloc, THREE, &THREE_THEN_ONE, 3, THREE_APPLIED, true);
-    assert!(rt; finished == Some(true));
-    let given_up = runs_rows(alloc, TWO, &GIVEN_UP, 2, APPLIED_BUT_GIVEN_UP, false);
-    assert!(rt; given_up == Some(true));
+    runs_rows(&rt, alloc, THREE, &THREE_THEN_ONE, 3, THREE_APPLIED, true);
+    runs_rows(&rt, alloc, TWO, &GIVEN_UP, 2, APPLIED_BUT_GIVEN_UP, false);
 }
 
 /// A producer puts a delete of a document.
@@ -179,20 +178,16 @@ fn puts(alloc: Global, world: &mut World, id: &str) -> Result<(), AllocError> {
     Ok(())
 }
 
-/// A world with two operations of producer 0, of which one is in flight and one queued.
-fn in_flight(alloc: Global) -> Result<Option<World>, AllocError> {
-    if !THREE.valid() {
-        return Ok(None);
-    }
-    let mut world = World::new(alloc, THREE, Index::new(alloc))?;
-    puts(alloc, &mut world, "1")?;
-    puts(alloc, &mut world, "2")?;
+/// Two operations of producer 0, of which one is in flight and one queued then.
+fn sends_one_of_two(alloc: Global, world: &mut World) -> Result<(), AllocError> {
+    puts(alloc, world, "1")?;
+    puts(alloc, world, "2")?;
     world.step(&Event::Take(0))?;
     world.step(&Event::Send(0))?;
-    Ok(Some(world))
+    Ok(())
 }
 
-/// Whether a world is that one.
+/// Whether a world has those two.
 fn is_in_flight(world: &World) -> bool {
     world.accepted(0).len() == 2
         && world.accepted_in(1, 0).is_empty()
@@ -200,7 +195,8 @@ fn is_in_flight(world: &World) -> bool {
         && world.sent(1, 2).is_none()
 }
 
-/// Whether that world is restarted in epoch 1, or an allocation was refused and it is unchanged.
+/// Whether a world with those two is restarted in epoch 1, or an allocation was refused and it is
+/// unchanged.
 fn restarts_or_stays(world: &mut World) -> bool {
     match world.step(&Event::Restart(1)) {
         Ok(answer) => {
@@ -215,7 +211,10 @@ fn restarts_or_stays(world: &mut World) -> bool {
 // The test ends if an allocation is refused before the restart.
 #[test]
 fn restart_out_of_memory(rt: HostRuntime) {
-    if let Ok(Some(mut world)) = in_flight(rt.alloc()) {
-        assert!(rt; restarts_or_stays(&mut world));
+    assert!(rt; THREE.valid());
+    if let Ok(mut world) = World::new(rt.alloc(), THREE, Index::new(rt.alloc())) {
+        if sends_one_of_two(rt.alloc(), &mut world).is_ok() {
+            assert!(rt; restarts_or_stays(&mut world));
+        }
     }
 }

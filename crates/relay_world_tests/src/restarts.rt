@@ -4,7 +4,7 @@ use relay_action::{DocKey, Op};
 use relay_core::RelayConfig;
 use relay_world::{Refusal, World};
 use std::alloc::Global;
-use std::test::Fail;
+use std::process::Abort;
 
 /// An applied write: its version, and the name of its operation.
 type Applied = (u64, Name);
@@ -20,8 +20,8 @@ struct End<'a> {
 }
 
 /// Whether a document has these writes, of these operations.
-fn has_writes(alloc: Global, world: &World, id: &str, rows: &[Applied]) -> Result<bool, Fail> {
-    let key = DocKey::new(alloc, "b", id)?;
+fn has_writes(rt: &impl Abort, alloc: Global, world: &World, id: &str, rows: &[Applied]) -> bool {
+    let key = DocKey::new(alloc, "b", id).expect(rt, "a key");
     let writes = world.applied(&key);
     let names = world.names(&key);
     let versions = writes
@@ -32,16 +32,16 @@ fn has_writes(alloc: Global, world: &World, id: &str, rows: &[Applied]) -> Resul
         .iter()
         .zip(rows)
         .all(|(name, row)| is_named(*name, row.1));
-    Ok(versions && named && writes.len() == rows.len() && names.len() == rows.len())
+    versions && named && writes.len() == rows.len() && names.len() == rows.len()
 }
 
 /// Whether these documents have these writes, and no other document has any.
-fn has_applied(alloc: Global, world: &World, rows: &[(&str, &[Applied])]) -> Result<bool, Fail> {
-    let mut good = world.keys()?.len() == rows.len();
+fn has_applied(rt: &impl Abort, alloc: Global, world: &World, rows: &[(&str, &[Applied])]) -> bool {
+    let mut good = world.keys().expect(rt, "memory").len() == rows.len();
     for (id, writes) in rows {
-        good = has_writes(alloc, world, id, writes)? && good;
+        good = has_writes(rt, alloc, world, id, writes) && good;
     }
-    Ok(good)
+    good
 }
 
 /// Whether this many operations of each producer were accepted in the last epoch.
@@ -63,35 +63,31 @@ fn has_reported(world: &World, rows: &[(Name, Given)]) -> bool {
     same && reports.len() == rows.len()
 }
 
-/// Whether a world ends like this.
-fn ends_so(alloc: Global, world: &World, end: &End<'_>) -> Result<bool, Fail> {
-    Ok(
-        has_accepted(world, end.accepted)
-            && has_applied(alloc, world, end.applied)?
-            && has_reported(world, end.reports)
-            && world.finished() == end.finished,
-    )
-}
-
 /// Whether a world answers rows as they say, and then ends like this.
 fn goes_so(
+    rt: &impl Abort,
     alloc: Global,
     world: &mut World,
     rows: &[(Row<'_>, Says)],
     end: &End<'_>,
-) -> Result<bool, Fail> {
-    Ok(played(alloc, world, rows)? && ends_so(alloc, world, end)?)
+) -> bool {
+    played(rt, alloc, world, rows)
+        && has_accepted(world, end.accepted)
+        && has_applied(rt, alloc, world, end.applied)
+        && has_reported(world, end.reports)
+        && world.finished() == end.finished
 }
 
 /// Whether a fresh world with a config does.
 fn goes(
+    rt: &impl Abort,
     alloc: Global,
     config: RelayConfig,
     rows: &[(Row<'_>, Says)],
     end: &End<'_>,
-) -> Result<bool, Fail> {
-    let mut world = world_of(alloc, config)?;
-    goes_so(alloc, &mut world, rows, end)
+) -> bool {
+    let mut world = world_of(rt, alloc, config);
+    goes_so(rt, alloc, &mut world, rows, end)
 }
 
 const FIRST_OF_ONE: u64 = 1_099_511_627_777;
@@ -114,19 +110,18 @@ const RESTARTED: [(Row<'static>, Says); 13] = [
 ];
 
 #[test]
-fn restarted(rt: HostRuntime) -> Result<(), Fail> {
+fn restarted(rt: HostRuntime) {
     let end = End {
         accepted: &[1],
         applied: &[("1", &[(1, (0, 0, 1)), (FIRST_OF_ONE, (1, 0, 1))])],
         reports: &[],
         finished: false,
     };
-    assert!(rt; goes(rt.alloc(), THREE, &RESTARTED, &end)?);
-    Ok(())
+    assert!(rt; goes(&rt, rt.alloc(), THREE, &RESTARTED, &end));
 }
 
 #[test]
-fn not_above(rt: HostRuntime) -> Result<(), Fail> {
+fn not_above(rt: HostRuntime) {
     let rows = [
         (Row::Restart(0), Says::No(Refusal::NotAbove)),
         (Row::Restart(4_194_304), Says::No(Refusal::NotAbove)),
@@ -145,8 +140,7 @@ fn not_above(rt: HostRuntime) -> Result<(), Fail> {
         reports: &[],
         finished: false,
     };
-    assert!(rt; goes(rt.alloc(), THREE, &rows, &end)?);
-    Ok(())
+    assert!(rt; goes(&rt, rt.alloc(), THREE, &rows, &end));
 }
 
 /// One version per lane, in epoch 8.
@@ -159,7 +153,7 @@ const LAST: RelayConfig = RelayConfig {
 };
 
 #[test]
-fn the_last_version(rt: HostRuntime) -> Result<(), Fail> {
+fn the_last_version(rt: HostRuntime) {
     let rows = [
         (Row::Put(0, "1", ""), Says::Name(8, 0, 1)),
         (Row::Put(0, "2", ""), Says::No(Refusal::QueueFull)),
@@ -179,8 +173,7 @@ fn the_last_version(rt: HostRuntime) -> Result<(), Fail> {
         reports: &[((8, 0, 2), Given::Spent(2))],
         finished: false,
     };
-    assert!(rt; goes(rt.alloc(), LAST, &rows, &end)?);
-    Ok(())
+    assert!(rt; goes(&rt, rt.alloc(), LAST, &rows, &end));
 }
 
 /// Two lanes, the first of which has the documents with an even id, and two producers.
@@ -278,41 +271,34 @@ fn keeps_what_was_accepted(world: &World) -> bool {
     ))
 }
 
-/// Whether two lanes are restarted and finish in the new epoch, and what was accepted in each is
-/// still known.
-fn restarts_two_lanes(alloc: Global) -> Result<bool, Fail> {
-    let mut world = world_of(alloc, TWO_LANES)?;
+// Two lanes are restarted and finish in the new epoch, and what was accepted in each is still known.
+#[test]
+fn two_lanes_and_producers(rt: HostRuntime) {
+    let alloc = rt.alloc();
+    let mut world = world_of(&rt, alloc, TWO_LANES);
     let before = End {
         accepted: &[2, 1],
         applied: &[("1", &[(1, (0, 1, 1))])],
         reports: &[],
         finished: false,
     };
+    assert!(rt; goes_so(&rt, alloc, &mut world, &BEFORE, &before));
+    assert!(rt; world.reports(1).len() == 1);
     let open = End {
         accepted: &[1, 1],
         applied: &ALL_OF_SEVEN,
         reports: &[],
         finished: false,
     };
+    assert!(rt; goes_so(&rt, alloc, &mut world, &AFTER, &open));
+    assert!(rt; world.reports(1).is_empty());
+    let last = [(Row::Reply(4, &[]), Says::Counts([1, 0, 0, 0]))];
     let after = End {
         finished: true,
         ..open
     };
-    let last = [(Row::Reply(4, &[]), Says::Counts([1, 0, 0, 0]))];
-    Ok(
-        goes_so(alloc, &mut world, &BEFORE, &before)?
-            && world.reports(1).len() == 1
-            && goes_so(alloc, &mut world, &AFTER, &open)?
-            && world.reports(1).is_empty()
-            && goes_so(alloc, &mut world, &last, &after)?
-            && keeps_what_was_accepted(&world),
-    )
-}
-
-#[test]
-fn two_lanes_and_producers(rt: HostRuntime) -> Result<(), Fail> {
-    assert!(rt; restarts_two_lanes(rt.alloc())?);
-    Ok(())
+    assert!(rt; goes_so(&rt, alloc, &mut world, &last, &after));
+    assert!(rt; keeps_what_was_accepted(&world));
 }
 
 /// Three incarnations write one document. The second one's request runs in the third, before that
@@ -341,7 +327,7 @@ const THREE_LIVES: [(Row<'static>, Says); 20] = [
 ];
 
 #[test]
-fn a_second_restart(rt: HostRuntime) -> Result<(), Fail> {
+fn a_second_restart(rt: HostRuntime) {
     let writes = [
         (1, (0, 0, 1)),
         (FIRST_OF_ONE, (1, 0, 1)),
@@ -353,8 +339,7 @@ fn a_second_restart(rt: HostRuntime) -> Result<(), Fail> {
         reports: &[],
         finished: false,
     };
-    assert!(rt; goes(rt.alloc(), THREE, &THREE_LIVES, &end)?);
-    Ok(())
+    assert!(rt; goes(&rt, rt.alloc(), THREE, &THREE_LIVES, &end));
 }
 
 /// One version per lane, in epoch 0.
@@ -363,7 +348,7 @@ const ONE_VERSION: RelayConfig = RelayConfig { deal: 1, ..THREE };
 // The operation that got no version in epoch 0 is not the one that has the second version of epoch
 // 1.
 #[test]
-fn spent_before_a_restart(rt: HostRuntime) -> Result<(), Fail> {
+fn spent_before_a_restart(rt: HostRuntime) {
     let rows = [
         (Row::Put(0, "1", "{}"), Says::Name(0, 0, 1)),
         (Row::Put(0, "1", "{}"), Says::Name(0, 0, 2)),
@@ -382,8 +367,7 @@ fn spent_before_a_restart(rt: HostRuntime) -> Result<(), Fail> {
         reports: &[],
         finished: false,
     };
-    assert!(rt; goes(rt.alloc(), ONE_VERSION, &rows, &end)?);
-    Ok(())
+    assert!(rt; goes(&rt, rt.alloc(), ONE_VERSION, &rows, &end));
 }
 
 /// Three deletes in one request, which is too large as a whole: each is sent by itself, the second
@@ -407,16 +391,23 @@ const HALVED: [(Row<'static>, Says); 15] = [
 ];
 
 /// Whether an item of a request is this document with this version.
-fn has_item(alloc: Global, world: &World, request: u64, item: u64, id: &str) -> Result<bool, Fail> {
-    let key = DocKey::new(alloc, "b", id)?;
-    Ok(match world.sent(request, item) {
-        Some((sent, _)) => *sent == key,
+fn has_item(
+    rt: &impl Abort,
+    alloc: Global,
+    world: &World,
+    (request, item): (u64, u64),
+    id: &str,
+    version: u64,
+) -> bool {
+    let key = DocKey::new(alloc, "b", id).expect(rt, "a key");
+    match world.sent(request, item) {
+        Some((sent, found)) => *sent == key && found == version,
         None => false,
-    })
+    }
 }
 
 /// Whether these are exactly the documents of the requests, each with the version of its number.
-fn has_requests(alloc: Global, world: &World) -> Result<bool, Fail> {
+fn has_requests(rt: &impl Abort, alloc: Global, world: &World) -> bool {
     let items: [(u64, u64, &str, u64); 6] = [
         (1, 1, "1", 1),
         (1, 2, "2", 2),
@@ -427,33 +418,24 @@ fn has_requests(alloc: Global, world: &World) -> Result<bool, Fail> {
     ];
     let mut good = true;
     for (request, item, id, version) in items {
-        let versioned = world
-            .sent(request, item)
-            .is_some_and(|sent| sent.1 == version);
-        good = has_item(alloc, world, request, item, id)? && versioned && good;
+        good = has_item(rt, alloc, world, (request, item), id, version) && good;
     }
     let ends: [(u64, u64); 5] = [(1, 4), (2, 2), (3, 2), (4, 2), (5, 1)];
-    Ok(
-        good && ends
-            .iter()
-            .all(|(request, item)| world.sent(*request, *item).is_none()),
-    )
+    good && ends
+        .iter()
+        .all(|(request, item)| world.sent(*request, *item).is_none())
 }
 
-/// Whether the rows of a halved request are answered like this.
-fn halves(alloc: Global) -> Result<bool, Fail> {
-    let mut world = world_of(alloc, THREE)?;
+#[test]
+fn too_large_as_a_whole(rt: HostRuntime) {
+    let alloc = rt.alloc();
+    let mut world = world_of(&rt, alloc, THREE);
     let end = End {
         accepted: &[3],
         applied: &[("2", &[(2, (0, 0, 2))])],
         reports: &[((0, 0, 1), Given::Rejected(1, 413))],
         finished: false,
     };
-    Ok(goes_so(alloc, &mut world, &HALVED, &end)? && has_requests(alloc, &world)?)
-}
-
-#[test]
-fn too_large_as_a_whole(rt: HostRuntime) -> Result<(), Fail> {
-    assert!(rt; halves(rt.alloc())?);
-    Ok(())
+    assert!(rt; goes_so(&rt, alloc, &mut world, &HALVED, &end));
+    assert!(rt; has_requests(&rt, alloc, &world));
 }

@@ -6,7 +6,7 @@ use relay_fixtures::desk::action_of;
 use relay_index::{Choice, Index};
 use relay_world::{Event, Refusal, StepAnswer, World};
 use std::alloc::Global;
-use std::test::Fail;
+use std::process::Abort;
 
 /// One lane and one producer, queues of ten, batches of ten documents and 4,096 bytes that are sent
 /// immediately, three attempts, and a thousand versions.
@@ -107,27 +107,21 @@ pub fn is_said(answer: StepAnswer, says: Says) -> bool {
 }
 
 /// A world with a config, which must be valid, over a fresh index.
-pub fn world_of(alloc: Global, config: RelayConfig) -> Result<World, Fail> {
-    if !config.valid() {
-        return Err("not valid")?;
-    }
-    Ok(World::new(alloc, config, Index::new(alloc))?)
-}
-
-/// Whether the event of a row is answered as the row says.
-fn answers(alloc: Global, world: &mut World, row: &Row<'_>, says: Says) -> Result<bool, Fail> {
-    let event = event_of(alloc, row)?;
-    Ok(is_said(world.step(&event)?, says))
+pub fn world_of(rt: &impl Abort, alloc: Global, config: RelayConfig) -> World {
+    assert!(rt; config.valid());
+    World::new(alloc, config, Index::new(alloc)).expect(rt, "memory")
 }
 
 /// Plays rows, and returns whether each is answered as it says.
-pub fn played(alloc: Global, world: &mut World, rows: &[(Row<'_>, Says)]) -> Result<bool, Fail> {
+pub fn played(rt: &impl Abort, alloc: Global, world: &mut World, rows: &[(Row<'_>, Says)]) -> bool {
     for (row, says) in rows {
-        if !answers(alloc, world, row, *says)? {
-            return Ok(false);
+        let event = event_of(alloc, row).expect(rt, "an event");
+        let answer = world.step(&event).expect(rt, "memory");
+        if !is_said(answer, *says) {
+            return false;
         }
     }
-    Ok(true)
+    true
 }
 
 /// Whether an event was accepted.
@@ -197,43 +191,35 @@ pub fn ends_with(
     Ok(good)
 }
 
-/// Whether a world answers these rows as they say, and then ends like this.
-fn plays_to(
-    alloc: Global,
-    world: &mut World,
-    rows: &[(Row<'_>, Says)],
-    applied: &[(&str, &[u64])],
-    reports: &[Given],
-    finished: bool,
-) -> Result<bool, Fail> {
-    Ok(played(alloc, world, rows)? && ends_with(alloc, world, applied, reports, finished)?)
-}
-
-/// Whether a fresh world with a config does.
+/// Whether a fresh world with a config answers these rows as they say, and then ends like this.
 pub fn lasts(
+    rt: &impl Abort,
     alloc: Global,
     config: RelayConfig,
     rows: &[(Row<'_>, Says)],
     applied: &[(&str, &[u64])],
     reports: &[Given],
     finished: bool,
-) -> Result<bool, Fail> {
-    let mut world = world_of(alloc, config)?;
-    plays_to(alloc, &mut world, rows, applied, reports, finished)
+) -> bool {
+    let mut world = world_of(rt, alloc, config);
+    played(rt, alloc, &mut world, rows)
+        && ends_with(alloc, &world, applied, reports, finished).expect(rt, "keys")
 }
 
 /// The same, with more rows at the end, after which it is not finished.
-pub fn lasts_with<'a>(
+pub fn lasts_with(
+    rt: &impl Abort,
     alloc: Global,
     config: RelayConfig,
-    rows: &[(Row<'a>, Says)],
-    more: &[(Row<'a>, Says)],
+    rows: &[(Row<'_>, Says)],
+    more: &[(Row<'_>, Says)],
     applied: &[(&str, &[u64])],
     reports: &[Given],
-) -> Result<bool, Fail> {
-    let mut all = Vec::from_slice(alloc, rows)?;
-    all.extend_from_slice(more)?;
-    lasts(alloc, config, all.as_slice(), applied, reports, false)
+) -> bool {
+    let mut world = world_of(rt, alloc, config);
+    played(rt, alloc, &mut world, rows)
+        && played(rt, alloc, &mut world, more)
+        && ends_with(alloc, &world, applied, reports, false).expect(rt, "keys")
 }
 
 /// The events of rows.
@@ -246,22 +232,16 @@ pub fn events_of(alloc: Global, rows: &[(Row<'_>, Says)]) -> Result<Vec<Event>, 
     Ok(events)
 }
 
-/// How many events a world accepts in one run, and how many it refuses.
-fn counts_of_run(world: &mut World, events: &[Event]) -> Result<(u64, u64), Fail> {
-    match world.run(events) {
-        Ok(end) => Ok((end.done, end.refused)),
-        Err(_) => Err("out of memory")?,
-    }
-}
-
 /// How many events of these rows a fresh world with a config accepts in one run, and how many it
 /// refuses.
 pub fn run_of(
+    rt: &impl Abort,
     alloc: Global,
     config: RelayConfig,
     rows: &[(Row<'_>, Says)],
-) -> Result<(u64, u64), Fail> {
-    let events = events_of(alloc, rows)?;
-    let mut world = world_of(alloc, config)?;
-    counts_of_run(&mut world, events.as_slice())
+) -> (u64, u64) {
+    let events = events_of(alloc, rows).expect(rt, "events");
+    let mut world = world_of(rt, alloc, config);
+    let end = world.run(events.as_slice()).expect(rt, "memory");
+    (end.done, end.refused)
 }

@@ -2,7 +2,6 @@
 use crate::script::{Given, Row, Says, THREE, lasts, lasts_with, run_of};
 use relay_core::RelayConfig;
 use relay_world::Refusal;
-use std::test::Fail;
 
 pub const TWO: RelayConfig = RelayConfig {
     attempts: 2,
@@ -41,16 +40,24 @@ pub const THREE_THEN_ONE: [(Row<'static>, Says); 21] = [
 pub const THREE_APPLIED: Ends = (&[("1", &[1]), ("2", &[2]), ("3", &[3])], &[]);
 
 #[test]
-fn three_then_one(rt: HostRuntime) -> Result<(), Fail> {
+fn three_then_one(rt: HostRuntime) {
     let (applied, reports) = THREE_APPLIED;
-    assert!(rt; lasts(rt.alloc(), THREE, &THREE_THEN_ONE, applied, reports, true)?);
-    Ok(())
+    assert!(rt;
+        lasts(
+            &rt,
+            rt.alloc(),
+            THREE,
+            &THREE_THEN_ONE,
+            applied,
+            reports,
+            true
+        )
+    );
 }
 
 #[test]
-fn counts_of_a_run(rt: HostRuntime) -> Result<(), Fail> {
-    assert!(rt; run_of(rt.alloc(), THREE, &THREE_THEN_ONE)? == (20, 1));
-    Ok(())
+fn counts_of_a_run(rt: HostRuntime) {
+    assert!(rt; run_of(&rt, rt.alloc(), THREE, &THREE_THEN_ONE) == (20, 1));
 }
 
 /// One operation is put, taken and sent.
@@ -72,9 +79,8 @@ const LOST: &[(Row<'static>, Says)] = &[
 ];
 
 #[test]
-fn lost_then_already(rt: HostRuntime) -> Result<(), Fail> {
-    assert!(rt; lasts_with(rt.alloc(), THREE, &SENT, LOST, &[("1", &[1])], &[])?);
-    Ok(())
+fn lost_then_already(rt: HostRuntime) {
+    assert!(rt; lasts_with(&rt, rt.alloc(), THREE, &SENT, LOST, &[("1", &[1])], &[]));
 }
 
 /// Its request is lost, and run after the repeat.
@@ -90,13 +96,12 @@ const LATE: &[(Row<'static>, Says)] = &[
 ];
 
 #[test]
-fn late_after_its_repeat(rt: HostRuntime) -> Result<(), Fail> {
-    assert!(rt; lasts_with(rt.alloc(), THREE, &SENT, LATE, &[("1", &[1])], &[])?);
-    Ok(())
+fn late_after_its_repeat(rt: HostRuntime) {
+    assert!(rt; lasts_with(&rt, rt.alloc(), THREE, &SENT, LATE, &[("1", &[1])], &[]));
 }
 
 #[test]
-fn one_of_a_document_at_a_time(rt: HostRuntime) -> Result<(), Fail> {
+fn one_of_a_document_at_a_time(rt: HostRuntime) {
     let rows = [
         (Row::Put(0, "1", "{\"a\":1}"), Says::Named(1)),
         (Row::Put(0, "1", "{\"a\":2}"), Says::Named(2)),
@@ -116,8 +121,7 @@ fn one_of_a_document_at_a_time(rt: HostRuntime) -> Result<(), Fail> {
         (Row::Run(3, 1), Says::Status(200)),
         (Row::Reply(3, &[]), Says::Counts([1, 0, 0, 0])),
     ];
-    assert!(rt; lasts(rt.alloc(), THREE, &rows, &[("1", &[1, 2])], &[], false)?);
-    Ok(())
+    assert!(rt; lasts(&rt, rt.alloc(), THREE, &rows, &[("1", &[1, 2])], &[], false));
 }
 
 /// An operation is run twice before its request is answered.
@@ -134,7 +138,7 @@ const RUN_TWICE: [(Row<'static>, Says); 9] = [
 ];
 
 #[test]
-fn picks(rt: HostRuntime) -> Result<(), Fail> {
+fn picks(rt: HostRuntime) {
     let ends: [(Row<'_>, [u32; 4], &[Given]); 2] = [
         (Row::Reply(1, &[]), [0, 0, 1, 0], &[Given::Conflict(1)]),
         (Row::Reply(1, &[1]), [1, 0, 0, 0], &[]),
@@ -143,16 +147,16 @@ fn picks(rt: HostRuntime) -> Result<(), Fail> {
         let last = [(row, Says::Counts(counts))];
         assert!(rt;
             lasts_with(
+                &rt,
                 rt.alloc(),
                 THREE,
                 &RUN_TWICE,
                 &last,
                 &[("1", &[1])],
                 reports
-            )?
+            )
         );
     }
-    Ok(())
 }
 
 /// An operation that was given up is nevertheless applied, before the next one of its document.
@@ -178,27 +182,25 @@ pub const GIVEN_UP: [(Row<'static>, Says); 15] = [
 pub const APPLIED_BUT_GIVEN_UP: Ends = (&[("1", &[1, 2])], &[Given::GaveUp(1, 2)]);
 
 #[test]
-fn given_up_and_applied(rt: HostRuntime) -> Result<(), Fail> {
+fn given_up_and_applied(rt: HostRuntime) {
     let (applied, reports) = APPLIED_BUT_GIVEN_UP;
-    assert!(rt; lasts(rt.alloc(), TWO, &GIVEN_UP, applied, reports, false)?);
-    Ok(())
+    assert!(rt; lasts(&rt, rt.alloc(), TWO, &GIVEN_UP, applied, reports, false));
 }
 
 #[test]
-fn refused_and_rejected(rt: HostRuntime) -> Result<(), Fail> {
+fn refused_and_rejected(rt: HostRuntime) {
     let ends: [(Row<'_>, [u32; 4], &[Given]); 2] = [
         (Row::Whole(1, 401), [0, 0, 1, 0], &[Given::Rejected(1, 401)]),
         (Row::Whole(1, 503), [0, 0, 0, 1], &[]),
     ];
     for (row, counts, reports) in ends {
         let last = [(row, Says::Counts(counts))];
-        assert!(rt; lasts_with(rt.alloc(), THREE, &SENT, &last, &[("1", &[])], reports)?);
+        assert!(rt; lasts_with(&rt, rt.alloc(), THREE, &SENT, &last, &[("1", &[])], reports));
     }
-    Ok(())
 }
 
 #[test]
-fn statuses(rt: HostRuntime) -> Result<(), Fail> {
+fn statuses(rt: HostRuntime) {
     let rows = [
         (Row::Refuse(1, 1, 409), Says::No(Refusal::BadStatus)),
         (Row::Whole(1, 200), Says::No(Refusal::BadStatus)),
@@ -207,6 +209,15 @@ fn statuses(rt: HostRuntime) -> Result<(), Fail> {
         (Row::Reply(1, &[]), Says::Counts([0, 0, 1, 0])),
     ];
     let reports = [Given::Refused(1, 400)];
-    assert!(rt; lasts_with(rt.alloc(), THREE, &SENT, &rows, &[("1", &[])], &reports)?);
-    Ok(())
+    assert!(rt;
+        lasts_with(
+            &rt,
+            rt.alloc(),
+            THREE,
+            &SENT,
+            &rows,
+            &[("1", &[])],
+            &reports
+        )
+    );
 }
