@@ -7,9 +7,10 @@ use crate::reading::{reads_reply, reads_request};
 use relay_action::{ByteOut, ByteStream, StreamFailed, Write};
 use relay_http::{Conn, HttpFault};
 use relay_ndjson::bulk_len;
-use std::alloc::{AllocError, Global};
+use std::alloc::Global;
 use std::fs;
-use std::test::Fail;
+use std::process::Abort;
+use std::rt::Files;
 
 // The maximum memory that these tests may use, in kilobytes: half of the smallest announced length.
 const ROOM: u64 = 8_192;
@@ -27,12 +28,15 @@ fn kilobytes(status: &str, name: &str) -> Option<u64> {
     line.split_ascii_whitespace().nth(1)?.parse().ok()
 }
 
-fn measure(rt: &HostRuntime) -> Result<Memory, Fail> {
-    let status = fs::read_to_string(rt, "/proc/self/status")?;
-    Ok(Memory {
-        size: kilobytes(status.as_str(), "VmSize:").ok_or("no size")?,
-        peak: kilobytes(status.as_str(), "VmPeak:").ok_or("no peak")?,
-    })
+fn measure(rt: &(impl Files + AllocGlobal + Abort)) -> Memory {
+    let status = fs::read_to_string(rt, "/proc/self/status").expect(
+        rt,
+        "the status of the process",
+    );
+    Memory {
+        size: kilobytes(status.as_str(), "VmSize:").expect(rt, "a size"),
+        peak: kilobytes(status.as_str(), "VmPeak:").expect(rt, "a peak"),
+    }
 }
 
 const REPLIES: &[&[u8]] = &[
@@ -44,25 +48,24 @@ const REQUEST: &[u8] = b"POST /_bulk HTTP/1.1\r\nContent-Length: 16777216\r\n\r\
 
 // Whether each of these messages, whose length is announced and whose body does not arrive, has
 // ended.
-fn have_ended(alloc: Global) -> Result<bool, AllocError> {
+fn have_ended(rt: &impl Abort, alloc: Global) -> bool {
     for reply in REPLIES {
-        if !reads_reply(alloc, *reply, 100_000, Err(HttpFault::Ended))? {
-            return Ok(false);
+        if !reads_reply(rt, alloc, *reply, 100_000, Err(HttpFault::Ended)) {
+            return false;
         }
     }
-    reads_request(alloc, REQUEST, 100_000, Err(HttpFault::Ended))
+    reads_request(rt, alloc, REQUEST, 100_000, Err(HttpFault::Ended))
 }
 
 #[test]
-fn lengths_without_bodies(rt: HostRuntime) -> Result<(), Fail> {
-    let before = measure(&rt)?;
+fn lengths_without_bodies(rt: HostRuntime) {
+    let before = measure(&rt);
     assert!(rt;
         before.peak < before.size.saturating_add(ROOM),
         "what was held before hides what is taken now"
     );
-    assert!(rt; have_ended(rt.alloc()) == Ok(true));
-    assert!(rt; measure(&rt)?.peak < before.peak.saturating_add(ROOM));
-    Ok(())
+    assert!(rt; have_ended(&rt, rt.alloc()));
+    assert!(rt; measure(&rt).peak < before.peak.saturating_add(ROOM));
 }
 
 // A stream that accepts what is written and keeps nothing.
@@ -84,29 +87,22 @@ impl ByteOut for Sink {
 }
 
 // Whether a request of about 16 MiB with these writes is written.
-fn is_written(alloc: Global, writes: &[Write]) -> bool {
-    if writes.len() > 10_000 {
-        return false;
-    }
+fn is_written(rt: &impl Abort, alloc: Global, writes: &[Write]) -> bool {
+    assert!(rt; writes.len() <= 10_000);
     let bytes = bulk_len(writes);
-    if bytes < 16_000_000 || bytes > 16_777_216 {
-        return false;
-    }
-    match Conn::new(alloc, Sink) {
-        Ok(mut conn) => conn.write_request(alloc, "a", writes).is_ok(),
-        Err(_) => false,
-    }
+    assert!(rt; bytes >= 16_000_000 && bytes <= 16_777_216);
+    let mut conn = Conn::new(alloc, Sink).ok().expect(rt, "memory");
+    conn.write_request(alloc, "a", writes).is_ok()
 }
 
 #[test]
-fn a_large_request(rt: HostRuntime) -> Result<(), Fail> {
-    let writes = writes_of(rt.alloc(), 10_000, 1_590).ok_or("no memory")?;
-    let before = measure(&rt)?;
+fn a_large_request(rt: HostRuntime) {
+    let writes = writes_of(rt.alloc(), 10_000, 1_590).expect(&rt, "memory");
+    let before = measure(&rt);
     assert!(rt;
         before.peak < before.size.saturating_add(ROOM),
         "what was held before hides what is taken now"
     );
-    assert!(rt; is_written(rt.alloc(), writes.as_slice()));
-    assert!(rt; measure(&rt)?.peak < before.peak.saturating_add(ROOM));
-    Ok(())
+    assert!(rt; is_written(&rt, rt.alloc(), writes.as_slice()));
+    assert!(rt; measure(&rt).peak < before.peak.saturating_add(ROOM));
 }

@@ -3,46 +3,34 @@ ghost use Rattle.std.specs.Prelude.{◌<◌};
 
 use crate::reading::{PIECES, Reply, reads_reply};
 use relay_http::HttpFault;
-use std::alloc::{AllocError, Global};
-
-// The first text, the second one repeated, and the third.
-fn repeated(
-    alloc: Global,
-    first: &[u8],
-    many: &[u8],
-    times: usize,
-    last: &[u8],
-) -> Result<Vec<u8>, AllocError> {
-    let mut text = first.to_vec(alloc)?;
-    for _ in 0..times {
-        text.extend_from_slice(many)?;
-    }
-    text.extend_from_slice(last)?;
-    Ok(text)
-}
+use std::alloc::Global;
+use std::process::Abort;
 
 // A row: a front, a text that is repeated after it, how often, a back, and the result of reading
 // all of it.
 type Row<'a> = (&'a [u8], &'a [u8], usize, &'a [u8], Reply<'a>);
 
-// Whether reading the text of a row has this result.
-fn is_read(alloc: Global, row: Row, piece: usize) -> Result<bool, AllocError>
-    requires { 0 < piece }
-{
-    let text = repeated(alloc, row.0, row.1, row.2, row.3)?;
-    reads_reply(alloc, text.as_slice(), piece, row.4)
+// The text of a row.
+fn text_of(rt: &impl Abort, alloc: Global, row: Row) -> Vec<u8> {
+    let mut text = row.0.to_vec(alloc).expect(rt, "memory");
+    for _ in 0..row.2 {
+        text.extend_from_slice(row.1).expect(rt, "memory");
+    }
+    text.extend_from_slice(row.3).expect(rt, "memory");
+    text
 }
 
 // Whether reading the text of each row has its result.
-fn are_read(alloc: Global, rows: &[Row], piece: usize) -> Result<bool, AllocError>
+fn are_read(rt: &impl Abort, alloc: Global, rows: &[Row], piece: usize) -> bool
     requires { 0 < piece }
 {
     for row in rows {
-        if !is_read(alloc, *row, piece)? {
-            return Ok(false);
+        let text = text_of(rt, alloc, *row);
+        if !reads_reply(rt, alloc, text.as_slice(), piece, row.4) {
+            return false;
         }
     }
-    Ok(true)
+    true
 }
 
 // 20 bytes, the repeated ones, and 23 bytes to the end of the head: 16,384 with 16,341 of them
@@ -110,10 +98,10 @@ const EMPTY_LINES: &[Row] = &[(
 #[test]
 fn heads_at_their_limits(rt: HostRuntime) {
     for piece in PIECES {
-        assert!(rt; are_read(rt.alloc(), HEADS, piece) == Ok(true));
+        assert!(rt; are_read(&rt, rt.alloc(), HEADS, piece));
     }
     for piece in [100, 100_000] {
-        assert!(rt; are_read(rt.alloc(), EMPTY_LINES, piece) == Ok(true));
+        assert!(rt; are_read(&rt, rt.alloc(), EMPTY_LINES, piece));
     }
 }
 
@@ -144,7 +132,7 @@ const INTERIM_HEADS: &[Row] = &[
 #[test]
 fn interim_heads_at_their_limit(rt: HostRuntime) {
     for piece in PIECES {
-        assert!(rt; are_read(rt.alloc(), INTERIM_HEADS, piece) == Ok(true));
+        assert!(rt; are_read(&rt, rt.alloc(), INTERIM_HEADS, piece));
     }
 }
 
@@ -196,6 +184,6 @@ const CHUNKS: &[Row] = &[
 #[test]
 fn chunks_at_their_limits(rt: HostRuntime) {
     for piece in PIECES {
-        assert!(rt; are_read(rt.alloc(), CHUNKS, piece) == Ok(true));
+        assert!(rt; are_read(&rt, rt.alloc(), CHUNKS, piece));
     }
 }

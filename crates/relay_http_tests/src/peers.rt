@@ -30,7 +30,7 @@ const REQUESTS: &[(&[u8], Request)] = &[
 
 #[test]
 fn requests_of_python(rt: HostRuntime) {
-    assert!(rt; reads_requests(rt.alloc(), REQUESTS) == Ok(true));
+    assert!(rt; reads_requests(&rt, rt.alloc(), REQUESTS));
 }
 
 const REPLIES: &[(&[u8], Reply)] = &[
@@ -54,5 +54,5 @@ const REPLIES: &[(&[u8], Reply)] = &[
 
 #[test]
 fn replies_of_python(rt: HostRuntime) {
-    assert!(rt; reads_replies(rt.alloc(), REPLIES) == Ok(true));
+    assert!(rt; reads_replies(&rt, rt.alloc(), REPLIES));
 }

@@ -4,7 +4,8 @@ ghost use Rattle.std.specs.Prelude.{◌<◌};
 use crate::reading::{gives_request, over};
 use relay_action::MemStream;
 use relay_http::{Conn, HttpFault};
-use std::alloc::{AllocError, Global};
+use std::alloc::Global;
+use std::process::Abort;
 
 // What is peeked: the target of a PUT, another method, or a fault.
 #[derive(Clone, Copy)]
@@ -43,27 +44,27 @@ const ROWS: &[(&[u8], Peeked<'_>, bool)] = &[
 
 // Whether this is peeked, twice, and the request is read after it.
 fn stays(
+    rt: &impl Abort,
     alloc: Global,
     bytes: &[u8],
     piece: usize,
     wanted: Peeked<'_>,
     bulk: bool,
-) -> Result<bool, AllocError>
+) -> bool
     requires { 0 < piece }
 {
-    let mut conn = over(alloc, bytes, piece)?;
-    Ok(
-        peeks(alloc, &mut conn, wanted)
-            && peeks(alloc, &mut conn, wanted)
-            && gives_request(alloc, &mut conn, Ok(Some((bulk, b"{}", true)))),
-    )
+    let mut conn = over(rt, alloc, bytes, piece);
+    peeks(alloc, &mut conn, wanted)
+        && peeks(alloc, &mut conn, wanted)
+        && gives_request(alloc, &mut conn, Ok(Some((bulk, b"{}", true))))
 }
 
 #[test]
 fn targets_of_puts(rt: HostRuntime) {
     for (bytes, wanted, bulk) in ROWS {
-        assert!(rt; stays(rt.alloc(), bytes, 1, *wanted, *bulk) == Ok(true));
-        assert!(rt; stays(rt.alloc(), bytes, 1000, *wanted, *bulk) == Ok(true));
+        for piece in [1, 1000] {
+            assert!(rt; stays(&rt, rt.alloc(), *bytes, piece, *wanted, *bulk));
+        }
     }
 }
 
@@ -75,18 +76,16 @@ const FAULTS: &[(&[u8], HttpFault)] = &[
 ];
 
 // Whether peeking has this fault, and the connection is broken after it.
-fn breaks(alloc: Global, bytes: &[u8], fault: HttpFault) -> Result<bool, AllocError> {
-    let mut conn = over(alloc, bytes, 7)?;
-    Ok(
-        peeks(alloc, &mut conn, Peeked::Fault(fault))
-            && !conn.is_open()
-            && peeks(alloc, &mut conn, Peeked::Fault(HttpFault::Broken)),
-    )
+fn breaks(rt: &impl Abort, alloc: Global, bytes: &[u8], fault: HttpFault) -> bool {
+    let mut conn = over(rt, alloc, bytes, 7);
+    peeks(alloc, &mut conn, Peeked::Fault(fault))
+        && !conn.is_open()
+        && peeks(alloc, &mut conn, Peeked::Fault(HttpFault::Broken))
 }
 
 #[test]
 fn no_head_to_peek(rt: HostRuntime) {
     for (bytes, fault) in FAULTS {
-        assert!(rt; breaks(rt.alloc(), bytes, *fault) == Ok(true));
+        assert!(rt; breaks(&rt, rt.alloc(), *bytes, *fault));
     }
 }

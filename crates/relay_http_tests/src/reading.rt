@@ -4,6 +4,7 @@ ghost use Rattle.std.specs.Prelude.{◌<◌};
 use relay_action::MemStream;
 use relay_http::{Conn, HttpFault, HttpReply, HttpRequest};
 use std::alloc::{AllocError, Global};
+use std::process::Abort;
 
 /// How many bytes arrive at a time in the tests: one, a few, or all.
 pub const PIECES: [usize; 3] = [1, 7, 100_000];
@@ -34,10 +35,10 @@ pub fn over_failing(
 }
 
 /// A connection over bytes that arrive a few at a time; its stream takes 1,000 bytes.
-pub fn over(alloc: Global, bytes: &[u8], piece: usize) -> Result<Conn<MemStream>, AllocError>
+pub fn over(rt: &impl Abort, alloc: Global, bytes: &[u8], piece: usize) -> Conn<MemStream>
     requires { 0 < piece }
 {
-    over_failing(alloc, bytes, piece, 1000, 0)
+    over_failing(alloc, bytes, piece, 1000, 0).expect(rt, "memory")
 }
 
 // Whether what was read is this reply.
@@ -79,114 +80,62 @@ pub fn gives_request(alloc: Global, conn: &mut Conn<MemStream>, wanted: Request)
     is_request(&read, wanted)
 }
 
-// Whether the next reply is this one, and the connection is broken after a fault or a reply that
-// does not keep it.
-fn leaves_reply(alloc: Global, conn: &mut Conn<MemStream>, wanted: Reply) -> bool {
-    let lasts = matches!(wanted, Ok((_, _, true)));
-    gives_reply(alloc, conn, wanted)
-        && (lasts || gives_reply(alloc, conn, Err(HttpFault::Broken)))
-        && conn.is_open() == lasts
-}
-
-// Whether the next request is this one, and nothing more is read after a fault or a request that
-// does not keep the connection.
-fn leaves_request(alloc: Global, conn: &mut Conn<MemStream>, wanted: Request) -> bool {
-    let lasts = matches!(wanted, Ok(Some((_, _, true))) | Ok(None));
-    gives_request(alloc, conn, wanted)
-        && (lasts || gives_request(alloc, conn, Err(HttpFault::Broken)))
-        && conn.is_open() == lasts
-}
-
 /// Whether these bytes are read as this reply, and the connection is broken after a fault or a
 /// reply that does not keep it.
 pub fn reads_reply(
+    rt: &impl Abort,
     alloc: Global,
     bytes: &[u8],
     piece: usize,
     wanted: Reply,
-) -> Result<bool, AllocError>
+) -> bool
     requires { 0 < piece }
 {
-    Ok(leaves_reply(alloc, &mut over(alloc, bytes, piece)?, wanted))
+    let mut conn = over(rt, alloc, bytes, piece);
+    let lasts = matches!(wanted, Ok((_, _, true)));
+    gives_reply(alloc, &mut conn, wanted)
+        && (lasts || gives_reply(alloc, &mut conn, Err(HttpFault::Broken)))
+        && conn.is_open() == lasts
 }
 
 /// Whether these bytes are read as this request, and nothing more is read after a fault or a
 /// request that does not keep the connection.
 pub fn reads_request(
+    rt: &impl Abort,
     alloc: Global,
     bytes: &[u8],
     piece: usize,
     wanted: Request,
-) -> Result<bool, AllocError>
+) -> bool
     requires { 0 < piece }
 {
-    Ok(leaves_request(alloc, &mut over(alloc, bytes, piece)?, wanted))
+    let mut conn = over(rt, alloc, bytes, piece);
+    let lasts = matches!(wanted, Ok(Some((_, _, true))) | Ok(None));
+    gives_request(alloc, &mut conn, wanted)
+        && (lasts || gives_request(alloc, &mut conn, Err(HttpFault::Broken)))
+        && conn.is_open() == lasts
 }
 
 /// Whether each row is read as its reply, in pieces of each size.
-pub fn reads_replies(alloc: Global, rows: &[(&[u8], Reply)]) -> Result<bool, AllocError> {
+pub fn reads_replies(rt: &impl Abort, alloc: Global, rows: &[(&[u8], Reply)]) -> bool {
     for piece in PIECES {
         for (bytes, wanted) in rows {
-            if !reads_reply(alloc, *bytes, piece, *wanted)? {
-                return Ok(false);
+            if !reads_reply(rt, alloc, *bytes, piece, *wanted) {
+                return false;
             }
         }
     }
-    Ok(true)
+    true
 }
 
 /// Whether each row is read as its request, in pieces of each size.
-pub fn reads_requests(alloc: Global, rows: &[(&[u8], Request)]) -> Result<bool, AllocError> {
+pub fn reads_requests(rt: &impl Abort, alloc: Global, rows: &[(&[u8], Request)]) -> bool {
     for piece in PIECES {
         for (bytes, wanted) in rows {
-            if !reads_request(alloc, *bytes, piece, *wanted)? {
-                return Ok(false);
+            if !reads_request(rt, alloc, *bytes, piece, *wanted) {
+                return false;
             }
         }
     }
-    Ok(true)
-}
-
-// Whether the next replies are these.
-fn gives_each_reply(alloc: Global, conn: &mut Conn<MemStream>, wanted: &[Reply]) -> bool {
-    for reply in wanted {
-        if !gives_reply(alloc, conn, *reply) {
-            return false;
-        }
-    }
     true
-}
-
-// Whether the next requests are these.
-fn gives_each_request(alloc: Global, conn: &mut Conn<MemStream>, wanted: &[Request]) -> bool {
-    for request in wanted {
-        if !gives_request(alloc, conn, *request) {
-            return false;
-        }
-    }
-    true
-}
-
-/// Whether these bytes are read as these replies, one after another.
-pub fn gives_replies(
-    alloc: Global,
-    bytes: &[u8],
-    piece: usize,
-    wanted: &[Reply],
-) -> Result<bool, AllocError>
-    requires { 0 < piece }
-{
-    Ok(gives_each_reply(alloc, &mut over(alloc, bytes, piece)?, wanted))
-}
-
-/// Whether these bytes are read as these requests, one after another.
-pub fn gives_requests(
-    alloc: Global,
-    bytes: &[u8],
-    piece: usize,
-    wanted: &[Request],
-) -> Result<bool, AllocError>
-    requires { 0 < piece }
-{
-    Ok(gives_each_request(alloc, &mut over(alloc, bytes, piece)?, wanted))
 }

@@ -19,15 +19,25 @@ fn conn_over(alloc: Global, stream: MemStream) -> Option<Conn<MemStream>> {
     }
 }
 
-// Whether a connection is made, and its stream has what it had before.
-fn opens(alloc: Global) -> Option<bool> {
+// A connection over a stream with a request.
+fn conn_with_request(alloc: Global) -> Option<Conn<MemStream>> {
     let stream = stream_once(alloc, REQUESTS[0]).or_else(|| stream_once(alloc, REQUESTS[0]))?;
-    let mut conn = conn_over(alloc, stream)?;
+    conn_over(alloc, stream)
+}
+
+// Whether nothing was read from a connection yet, and the request is read, unless that is refused.
+fn is_fresh(alloc: Global, conn: &mut Conn<MemStream>) -> bool {
     let fresh = conn.is_open() && conn.held() == 0;
-    Some(match read_request(alloc, &mut conn) {
+    match read_request(alloc, conn) {
         Ok(right) => fresh && right,
         Err(fault) => fresh && fault == HttpFault::Memory,
-    })
+    }
+}
+
+// Whether a connection is made, and its stream has what it had before.
+fn opens(alloc: Global) -> Option<bool> {
+    let mut conn = conn_with_request(alloc)?;
+    Some(is_fresh(alloc, &mut conn))
 }
 
 #[test]
@@ -124,16 +134,22 @@ const ANSWER: &[u8] =
 
 const TEXT: &str = "0123456789012345678901234567890123456789012345678901234567890123456789";
 
+// Whether the answer was written to a connection, and whether nothing was.
+fn wrote(conn: Conn<MemStream>) -> (bool, bool) {
+    let stream = conn.into_stream();
+    (stream.written() == ANSWER, stream.written().is_empty())
+}
+
 // Whether an answer is written. `Err`: it was refused, with whether nothing was written and the
 // connection is broken.
 fn answer_once(alloc: Global) -> Option<Result<bool, bool>> {
     let mut conn = conn_of(alloc, b"", 1_000)?;
     let done = conn.write_answer(alloc, 200, TEXT, true);
     let open = conn.is_open();
-    let stream = conn.into_stream();
+    let (all, nothing) = wrote(conn);
     Some(match done {
-        Ok(()) => Ok(open && stream.written() == ANSWER),
-        Err(fault) => Err(fault == HttpFault::Memory && !open && stream.written().is_empty()),
+        Ok(()) => Ok(open && all),
+        Err(fault) => Err(fault == HttpFault::Memory && !open && nothing),
     })
 }
 
@@ -151,18 +167,24 @@ fn refused_answers(rt: HostRuntime) {
     assert!(rt; answers(rt.alloc()));
 }
 
+// Whether these are both lines of each of some writes.
+fn are_lines_of_writes(lines: &[u8]) -> bool {
+    let ends = lines.iter().filter(|byte| **byte == b'\n').count();
+    ends % 2 == 0 && (lines.is_empty() || lines.ends_with(b"\n"))
+}
+
 // Whether nothing was written, or the head and both lines of each of the first writes, fewer than
 // all; the body has `body` bytes.
 fn is_front(written: &[u8], wanted: &[u8], body: usize) -> bool {
     let head = wanted.len().saturating_sub(body);
-    let Some(lines) = written.get(head..) else {
-        return written.is_empty();
-    };
-    let ends = lines.iter().filter(|byte| **byte == b'\n').count();
-    wanted.starts_with(written)
-        && written.len() < wanted.len()
-        && ends % 2 == 0
-        && lines.last().is_none_or(|last| *last == b'\n')
+    match written.get(head..) {
+        Some(lines) => {
+            wanted.starts_with(written)
+                && written.len() < wanted.len()
+                && are_lines_of_writes(lines)
+        }
+        None => written.is_empty(),
+    }
 }
 
 // Whether a bulk request is written. `Err`: it was refused, with whether a prefix of it was written
@@ -215,7 +237,7 @@ fn refused_bulk_requests(rt: HostRuntime) {
 }
 
 // The result of peeking at a PUT: whether its target is right, unless an allocation was refused.
-fn peek_once(alloc: Global, conn: &mut Conn<MemStream>) -> Result<bool, HttpFault> {
+fn peek(alloc: Global, conn: &mut Conn<MemStream>) -> Result<bool, HttpFault> {
     Ok(match conn.peek_put(alloc)? {
         Some(target) => target.as_slice() == b"/i/_doc/1".as_slice(),
         None => false,
@@ -224,20 +246,27 @@ fn peek_once(alloc: Global, conn: &mut Conn<MemStream>) -> Result<bool, HttpFaul
 
 const PUT: &[u8] = b"PUT /i/_doc/1 HTTP/1.1\r\nContent-Length: 0\r\n\r\n";
 
-// Whether a PUT is peeked at, on a second connection if an allocation was refused on the first.
-fn peeks_put(alloc: Global) -> Option<bool> {
+// Whether a PUT is peeked at. `Err`: it was refused, with whether the connection is broken then.
+fn peek_once(alloc: Global) -> Option<Result<bool, bool>> {
     let mut conn = conn_of(alloc, PUT, 100)?;
-    match peek_once(alloc, &mut conn) {
-        Ok(right) => Some(right && conn.is_open()),
-        Err(fault) => {
-            let broken = fault == HttpFault::Memory && !conn.is_open();
-            let again = peek_once(alloc, &mut conn_of(alloc, PUT, 100)?);
-            Some(broken && again == Ok(true))
-        }
+    let found = peek(alloc, &mut conn);
+    let open = conn.is_open();
+    Some(match found {
+        Ok(right) => Ok(right && open),
+        Err(fault) => Err(fault == HttpFault::Memory && !open),
+    })
+}
+
+// Whether a PUT is peeked at, on a second connection if an allocation was refused on the first.
+fn peeks_put(alloc: Global) -> bool {
+    match peek_once(alloc) {
+        Some(Ok(right)) => right,
+        Some(Err(broken)) => broken && peek_once(alloc) == Some(Ok(true)),
+        None => false,
     }
 }
 
 #[test]
 fn refused_puts(rt: HostRuntime) {
-    assert!(rt; peeks_put(rt.alloc()) == Some(true));
+    assert!(rt; peeks_put(rt.alloc()));
 }

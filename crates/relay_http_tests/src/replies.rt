@@ -1,5 +1,5 @@
 //! A table of replies, read in one piece, in pieces of seven bytes, and byte by byte.
-use crate::reading::{PIECES, Reply, gives_replies, reads_replies, reads_reply};
+use crate::reading::{PIECES, Reply, gives_reply, over, reads_replies, reads_reply};
 use relay_http::HttpFault;
 
 /// A reply in chunks, after an interim head.
@@ -79,7 +79,7 @@ const WITH_A_LENGTH: &[(&[u8], Reply)] = &[
 
 #[test]
 fn bodies_with_a_length(rt: HostRuntime) {
-    assert!(rt; reads_replies(rt.alloc(), WITH_A_LENGTH) == Ok(true));
+    assert!(rt; reads_replies(&rt, rt.alloc(), WITH_A_LENGTH));
 }
 
 const IN_CHUNKS: &[(&[u8], Reply)] = &[
@@ -136,7 +136,7 @@ const IN_CHUNKS: &[(&[u8], Reply)] = &[
 
 #[test]
 fn bodies_in_chunks(rt: HostRuntime) {
-    assert!(rt; reads_replies(rt.alloc(), IN_CHUNKS) == Ok(true));
+    assert!(rt; reads_replies(&rt, rt.alloc(), IN_CHUNKS));
 }
 
 const CODINGS: &[(&[u8], Reply)] = &[
@@ -196,7 +196,7 @@ const CODINGS: &[(&[u8], Reply)] = &[
 
 #[test]
 fn codings(rt: HostRuntime) {
-    assert!(rt; reads_replies(rt.alloc(), CODINGS) == Ok(true));
+    assert!(rt; reads_replies(&rt, rt.alloc(), CODINGS));
 }
 
 const HEADS_AND_STATUSES: &[(&[u8], Reply)] = &[
@@ -254,7 +254,7 @@ const HEADS_AND_STATUSES: &[(&[u8], Reply)] = &[
 
 #[test]
 fn heads_and_statuses(rt: HostRuntime) {
-    assert!(rt; reads_replies(rt.alloc(), HEADS_AND_STATUSES) == Ok(true));
+    assert!(rt; reads_replies(&rt, rt.alloc(), HEADS_AND_STATUSES));
 }
 
 const KEEPING: &[(&[u8], Reply)] = &[
@@ -291,7 +291,7 @@ const KEEPING: &[(&[u8], Reply)] = &[
 
 #[test]
 fn which_replies_keep_the_connection(rt: HostRuntime) {
-    assert!(rt; reads_replies(rt.alloc(), KEEPING) == Ok(true));
+    assert!(rt; reads_replies(&rt, rt.alloc(), KEEPING));
 }
 
 #[test]
@@ -299,8 +299,13 @@ fn a_reply_cut_anywhere_has_ended(rt: HostRuntime) {
     for piece in PIECES {
         for length in 0..CHUNKED.len() {
             assert!(rt;
-                reads_reply(rt.alloc(), &CHUNKED[..length], piece, Err(HttpFault::Ended))
-                    == Ok(true)
+                reads_reply(
+                    &rt,
+                    rt.alloc(),
+                    &CHUNKED[..length],
+                    piece,
+                    Err(HttpFault::Ended)
+                )
             );
         }
     }
@@ -319,6 +324,9 @@ const THREE_REPLIES: &[Reply] = &[
 #[test]
 fn replies_one_after_another(rt: HostRuntime) {
     for piece in PIECES {
-        assert!(rt; gives_replies(rt.alloc(), THREE, piece, THREE_REPLIES) == Ok(true));
+        let mut conn = over(&rt, rt.alloc(), THREE, piece);
+        for wanted in THREE_REPLIES {
+            assert!(rt; gives_reply(rt.alloc(), &mut conn, *wanted));
+        }
     }
 }

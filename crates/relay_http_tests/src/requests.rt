@@ -1,5 +1,5 @@
 //! A table of requests, read in one piece, in pieces of seven bytes, and byte by byte.
-use crate::reading::{PIECES, Request, gives_requests, reads_request, reads_requests};
+use crate::reading::{PIECES, Request, gives_request, over, reads_request, reads_requests};
 use relay_http::HttpFault;
 
 const BODIES: &[(&[u8], Request)] = &[
@@ -47,7 +47,7 @@ const BODIES: &[(&[u8], Request)] = &[
 
 #[test]
 fn bodies_of_requests(rt: HostRuntime) {
-    assert!(rt; reads_requests(rt.alloc(), BODIES) == Ok(true));
+    assert!(rt; reads_requests(&rt, rt.alloc(), BODIES));
 }
 
 const LINES_AND_KEEPING: &[(&[u8], Request)] = &[
@@ -83,7 +83,7 @@ const LINES_AND_KEEPING: &[(&[u8], Request)] = &[
 
 #[test]
 fn which_requests_are_bulk_and_keep(rt: HostRuntime) {
-    assert!(rt; reads_requests(rt.alloc(), LINES_AND_KEEPING) == Ok(true));
+    assert!(rt; reads_requests(&rt, rt.alloc(), LINES_AND_KEEPING));
 }
 
 const WHOLE: &[u8] = b"POST /_bulk HTTP/1.1\r\nHost: a\r\nContent-Length: 5\r\n\r\nhello";
@@ -93,8 +93,13 @@ fn a_request_cut_anywhere_has_ended(rt: HostRuntime) {
     for piece in PIECES {
         for length in 1..WHOLE.len() {
             assert!(rt;
-                reads_request(rt.alloc(), &WHOLE[..length], piece, Err(HttpFault::Ended))
-                    == Ok(true)
+                reads_request(
+                    &rt,
+                    rt.alloc(),
+                    &WHOLE[..length],
+                    piece,
+                    Err(HttpFault::Ended)
+                )
             );
         }
     }
@@ -112,6 +117,9 @@ const TWO_REQUESTS: &[Request] = &[
 #[test]
 fn requests_one_after_another(rt: HostRuntime) {
     for piece in PIECES {
-        assert!(rt; gives_requests(rt.alloc(), TWO, piece, TWO_REQUESTS) == Ok(true));
+        let mut conn = over(&rt, rt.alloc(), TWO, piece);
+        for wanted in TWO_REQUESTS {
+            assert!(rt; gives_request(rt.alloc(), &mut conn, *wanted));
+        }
     }
 }

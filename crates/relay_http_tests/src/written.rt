@@ -8,18 +8,19 @@ use crate::reading::{gives_reply, gives_request, over};
 use relay_action::{Action, DocKey, MemStream, Write};
 use relay_http::{Conn, HttpFault, is_host};
 use relay_ndjson::bulk_len;
-use std::alloc::{AllocError, Global};
-use std::test::Fail;
+use std::alloc::Global;
+use std::process::Abort;
 
 /// A delete with version 2.
-pub fn one_write(alloc: Global) -> Result<Vec<Write>, Fail> {
+pub fn one_write(rt: &impl Abort, alloc: Global) -> Vec<Write> {
     let mut writes = Vec::new(alloc);
-    writes.push(Write {
-        key: DocKey::new(alloc, "books", "2")?,
+    let write = Write {
+        key: DocKey::new(alloc, "books", "2").expect(rt, "a key"),
         version: 2,
         action: Action::delete(),
-    })?;
-    Ok(writes)
+    };
+    writes.push(write).expect(rt, "memory");
+    writes
 }
 
 // Whether these bytes were written to the stream of a connection.
@@ -29,74 +30,69 @@ fn was_written(conn: Conn<MemStream>, wanted: &[u8]) -> bool {
 
 // Whether a request to this host with these writes is written as these bytes, and leaves the connection
 // open.
-fn is_request(
-    alloc: Global,
-    host: &str,
-    writes: &[Write],
-    wanted: &[u8],
-) -> Result<bool, AllocError>
+fn is_request(rt: &impl Abort, alloc: Global, host: &str, writes: &[Write], wanted: &[u8]) -> bool
     requires host { IsTrue (is_host host.now) }
     requires few { length writes.now ≤ 1 }
     requires size { length (text_of writes.now) ≤ 1000 }
 {
-    let mut conn = over(alloc, b"", 5)?;
-    let done = conn.write_request(alloc, host, writes).is_ok();
-    Ok(done && conn.is_open() && was_written(conn, wanted))
+    let mut conn = over(rt, alloc, b"", 5);
+    assert!(rt; conn.write_request(alloc, host, writes).is_ok());
+    assert!(rt; conn.is_open());
+    was_written(conn, wanted)
 }
 
 #[test]
-fn a_request(rt: HostRuntime) -> Result<(), Fail> {
-    let writes = one_write(rt.alloc())?;
+fn a_request(rt: HostRuntime) {
+    let writes = one_write(&rt, rt.alloc());
     assert!(rt; writes.len() == 1 && bulk_len(writes.as_slice()) == 78);
     assert!(rt;
         is_request(
+            &rt,
             rt.alloc(),
             "127.0.0.1:9200",
             writes.as_slice(),
             b"POST /_bulk HTTP/1.1\r\nHost: 127.0.0.1:9200\r\nContent-Type: application/x-ndjson\r\nContent-Length: 78\r\n\r\n{\"delete\":{\"_id\":\"2\",\"_index\":\"books\",\"version\":2,\"version_type\":\"external\"}}\n"
-        ) == Ok(true)
+        )
     );
-    Ok(())
 }
 
 // Whether a request with these writes reads back with this body, and nothing follows it.
-fn reads_back(alloc: Global, writes: &[Write], body: &'static [u8]) -> Result<bool, AllocError>
+fn reads_back(rt: &impl Abort, alloc: Global, writes: &[Write], body: &'static [u8]) -> bool
     requires few { length writes.now ≤ 1 }
     requires size { length (text_of writes.now) ≤ 1000 }
 {
-    let mut conn = over(alloc, b"", 5)?;
-    let done = conn.write_request(alloc, "a", writes).is_ok();
+    let mut conn = over(rt, alloc, b"", 5);
+    assert!(rt; conn.write_request(alloc, "a", writes).is_ok());
     let stream = conn.into_stream();
-    let mut other = over(alloc, stream.written(), 5)?;
-    Ok(
-        done && gives_request(alloc, &mut other, Ok(Some((true, body, true))))
-            && gives_request(alloc, &mut other, Ok(None)),
-    )
+    let mut other = over(rt, alloc, stream.written(), 5);
+    gives_request(alloc, &mut other, Ok(Some((true, body, true))))
+        && gives_request(alloc, &mut other, Ok(None))
 }
 
 #[test]
-fn a_request_is_read_back(rt: HostRuntime) -> Result<(), Fail> {
-    let writes = one_write(rt.alloc())?;
+fn a_request_is_read_back(rt: HostRuntime) {
+    let writes = one_write(&rt, rt.alloc());
     assert!(rt; writes.len() == 1 && bulk_len(writes.as_slice()) == 78);
     assert!(rt;
         reads_back(
+            &rt,
             rt.alloc(),
             writes.as_slice(),
             b"{\"delete\":{\"_id\":\"2\",\"_index\":\"books\",\"version\":2,\"version_type\":\"external\"}}\n"
-        ) == Ok(true)
+        )
     );
-    Ok(())
 }
 
 #[test]
 fn a_request_without_writes(rt: HostRuntime) {
     assert!(rt;
         is_request(
+            &rt,
             rt.alloc(),
             "a",
             &[],
             b"POST /_bulk HTTP/1.1\r\nHost: a\r\nContent-Type: application/x-ndjson\r\nContent-Length: 0\r\n\r\n"
-        ) == Ok(true)
+        )
     );
 }
 
@@ -111,10 +107,10 @@ fn writes_in_turn(alloc: Global, conn: &mut Conn<MemStream>, writes: &[Write]) -
 }
 
 #[test]
-fn messages_one_after_another(rt: HostRuntime) -> Result<(), Fail> {
-    let writes = one_write(rt.alloc())?;
+fn messages_one_after_another(rt: HostRuntime) {
+    let writes = one_write(&rt, rt.alloc());
     assert!(rt; writes.len() == 1 && bulk_len(writes.as_slice()) == 78);
-    let mut conn = over(rt.alloc(), b"", 5)?;
+    let mut conn = over(&rt, rt.alloc(), b"", 5);
     assert!(rt; writes_in_turn(rt.alloc(), &mut conn, writes.as_slice()));
     assert!(rt;
         was_written(
@@ -122,23 +118,24 @@ fn messages_one_after_another(rt: HostRuntime) -> Result<(), Fail> {
             b"POST /_bulk HTTP/1.1\r\nHost: a\r\nContent-Type: application/x-ndjson\r\nContent-Length: 78\r\n\r\n{\"delete\":{\"_id\":\"2\",\"_index\":\"books\",\"version\":2,\"version_type\":\"external\"}}\nPOST /_bulk HTTP/1.1\r\nHost: a\r\nContent-Type: application/x-ndjson\r\nContent-Length: 0\r\n\r\nHTTP/1.1 200 OK\r\nContent-Type: application/json\r\nContent-Length: 2\r\n\r\nok"
         )
     );
-    Ok(())
 }
 
 // Whether this answer is written as these bytes, and leaves the connection open if it keeps it.
 fn is_answer(
+    rt: &impl Abort,
     alloc: Global,
     status: u16,
     body: &str,
     keep: bool,
     wanted: &[u8],
-) -> Result<bool, AllocError>
+) -> bool
     requires status { IsAnswerStatus status }
     requires size { length body.now ≤ 1000 }
 {
-    let mut conn = over(alloc, b"", 5)?;
-    let done = conn.write_answer(alloc, status, body, keep).is_ok();
-    Ok(done && conn.is_open() == keep && was_written(conn, wanted))
+    let mut conn = over(rt, alloc, b"", 5);
+    assert!(rt; conn.write_answer(alloc, status, body, keep).is_ok());
+    assert!(rt; conn.is_open() == keep);
+    was_written(conn, wanted)
 }
 
 const ANSWERS: &[(u16, &str, bool, &[u8])] = &[
@@ -177,21 +174,21 @@ const ANSWERS: &[(u16, &str, bool, &[u8])] = &[
 #[test]
 fn answers(rt: HostRuntime) {
     for (status, text, keep, wanted) in ANSWERS {
-        assert!(rt; is_answer(rt.alloc(), *status, *text, *keep, *wanted) == Ok(true));
+        assert!(rt; is_answer(&rt, rt.alloc(), *status, *text, *keep, *wanted));
     }
 }
 
-// What is written after a request was read, and what the connection may carry then.
-fn answers_to(alloc: Global, request: &[u8]) -> Result<(bool, bool), AllocError> {
-    let mut conn = over(alloc, request, 5)?;
-    let read = conn.read_request(alloc).is_ok();
-    let done = conn.write_answer(alloc, 200, "ok", true).is_ok();
+// Whether an answer after a request says that the connection closes, and whether it is open then.
+fn answers_to(rt: &impl Abort, alloc: Global, request: &[u8]) -> (bool, bool) {
+    let mut conn = over(rt, alloc, request, 5);
+    assert!(rt; conn.read_request(alloc).is_ok());
+    assert!(rt; conn.write_answer(alloc, 200, "ok", true).is_ok());
     let open = conn.is_open();
     let says_close = was_written(
         conn,
         b"HTTP/1.1 200 OK\r\nContent-Type: application/json\r\nContent-Length: 2\r\nConnection: close\r\n\r\nok",
     );
-    Ok((read && done && says_close, open))
+    (says_close, open)
 }
 
 const CLOSING: &[(&[u8], (bool, bool))] = &[
@@ -206,7 +203,7 @@ const CLOSING: &[(&[u8], (bool, bool))] = &[
 #[test]
 fn an_answer_closes_where_the_request_does(rt: HostRuntime) {
     for (request, wanted) in CLOSING {
-        assert!(rt; answers_to(rt.alloc(), *request) == Ok(*wanted));
+        assert!(rt; answers_to(&rt, rt.alloc(), *request) == *wanted);
     }
 }
 
@@ -219,11 +216,10 @@ fn carries_nothing(alloc: Global, conn: &mut Conn<MemStream>) -> bool {
 }
 
 #[test]
-fn a_broken_connection_carries_nothing(rt: HostRuntime) -> Result<(), Fail> {
-    let mut conn = over(rt.alloc(), b"HTTP/1.1 200 OK\r\n\r\n", 5)?;
+fn a_broken_connection_carries_nothing(rt: HostRuntime) {
+    let mut conn = over(&rt, rt.alloc(), b"HTTP/1.1 200 OK\r\n\r\n", 5);
     assert!(rt; conn.write_answer(rt.alloc(), 200, "", false).is_ok());
     assert!(rt; carries_nothing(rt.alloc(), &mut conn));
-    Ok(())
 }
 
 const HOSTS: &[(&str, bool)] = &[

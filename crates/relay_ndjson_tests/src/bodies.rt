@@ -1,7 +1,8 @@
 //! Tables of bulk bodies, lines at their limit, and reading back what was written.
 use relay_action::{Action, ActionFault, Write};
 use relay_ndjson::{BulkFault, LineKind, bulk_text, read_bulk};
-use std::alloc::{AllocError, Global};
+use std::alloc::Global;
+use std::process::Abort;
 
 const DELETE: &[u8] =
     b"{\"delete\":{\"_id\":\"1\",\"_index\":\"b\",\"version\":1,\"version_type\":\"external\"}}\n";
@@ -16,12 +17,12 @@ fn at(line: u64, kind: LineKind) -> Option<BulkFault> {
 }
 
 // Several pieces, joined.
-fn joined(alloc: Global, pieces: &[&[u8]]) -> Result<Vec<u8>, AllocError> {
+fn joined(rt: &impl Abort, alloc: Global, pieces: &[&[u8]]) -> Vec<u8> {
     let mut bytes = Vec::new(alloc);
     for piece in pieces {
-        bytes.extend_from_slice(*piece)?;
+        bytes.extend_from_slice(*piece).expect(rt, "memory");
     }
-    Ok(bytes)
+    bytes
 }
 
 // The number of writes in a body without a fault.
@@ -33,26 +34,19 @@ fn count(alloc: Global, body: &[u8]) -> Option<usize> {
 }
 
 // The fault of a body in pieces.
-fn fault_of(alloc: Global, pieces: &[&[u8]]) -> Result<Option<BulkFault>, AllocError> {
-    let body = joined(alloc, pieces)?;
-    Ok(read_bulk(alloc, body.as_slice()).err())
+fn fault_of(rt: &impl Abort, alloc: Global, pieces: &[&[u8]]) -> Option<BulkFault> {
+    let body = joined(rt, alloc, pieces);
+    read_bulk(alloc, body.as_slice()).err()
 }
 
-// The fault of a line by itself, if it is the same after writes and before other bad lines.
-fn fault_anywhere(alloc: Global, line: &[u8]) -> Result<Option<BulkFault>, AllocError> {
-    let alone = fault_of(alloc, &[line])?;
-    if fault_of(alloc, &[line, b"[1]\n"])? != alone || fault_of(alloc, &[line, b"\n"])? != alone {
-        return Ok(at(0, LineKind::Failed));
-    }
-    let Some(fault) = alone else {
-        return Ok(None);
-    };
-    let after = fault_of(alloc, &[DELETE, line])?;
-    let later = fault_of(alloc, &[INDEX, b"{}\n", line])?;
-    if after != at(2, fault.kind) || later != at(3, fault.kind) {
-        return Ok(at(0, LineKind::Failed));
-    }
-    Ok(alone)
+// The fault of a line by itself. It is the same after writes and before other bad lines.
+fn fault_anywhere(rt: &impl Abort, alloc: Global, line: &[u8]) -> BulkFault {
+    let alone = fault_of(rt, alloc, &[line]).expect(rt, "a fault");
+    assert!(rt; fault_of(rt, alloc, &[line, b"[1]\n"]) == Some(alone));
+    assert!(rt; fault_of(rt, alloc, &[line, b"\n"]) == Some(alone));
+    assert!(rt; fault_of(rt, alloc, &[DELETE, line]) == at(2, alone.kind));
+    assert!(rt; fault_of(rt, alloc, &[INDEX, b"{}\n", line]) == at(3, alone.kind));
+    alone
 }
 
 const NO_ACTION: &[(&[u8], LineKind)] = &[
@@ -68,14 +62,14 @@ const NO_ACTION: &[(&[u8], LineKind)] = &[
 #[test]
 fn lines_that_are_no_action(rt: HostRuntime) {
     for (line, kind) in NO_ACTION {
-        assert!(rt; fault_anywhere(rt.alloc(), *line) == Ok(at(1, *kind)));
+        assert!(rt; Some(fault_anywhere(&rt, rt.alloc(), *line)) == at(1, *kind));
     }
 }
 
 // The fault of a delete with this metadata.
-fn fault_of_metadata(alloc: Global, metadata: &[u8]) -> Result<Option<BulkFault>, AllocError> {
-    let line = joined(alloc, &[b"{\"delete\":{", metadata, b"}}\n"])?;
-    fault_anywhere(alloc, line.as_slice())
+fn fault_of_metadata(rt: &impl Abort, alloc: Global, metadata: &[u8]) -> BulkFault {
+    let line = joined(rt, alloc, &[b"{\"delete\":{", metadata, b"}}\n"]);
+    fault_anywhere(rt, alloc, line.as_slice())
 }
 
 const METADATA_IN_ORDER: &[(&[u8], LineKind)] = &[
@@ -98,45 +92,23 @@ const METADATA_IN_ORDER: &[(&[u8], LineKind)] = &[
 #[test]
 fn order_of_metadata(rt: HostRuntime) {
     for (metadata, kind) in METADATA_IN_ORDER {
-        assert!(rt; fault_of_metadata(rt.alloc(), *metadata) == Ok(at(1, *kind)));
+        assert!(rt; Some(fault_of_metadata(&rt, rt.alloc(), *metadata)) == at(1, *kind));
     }
-}
-
-// The fault of a delete with this version and this version type.
-fn fault_of_version(
-    alloc: Global,
-    version: &[u8],
-    version_type: &[u8],
-) -> Result<Option<BulkFault>, AllocError> {
-    let metadata = joined(
-        alloc,
-        &[
-            b"\"_id\":\"1\",\"_index\":\"b\",\"version\":",
-            version,
-            b",\"version_type\":",
-            version_type,
-        ],
-    )?;
-    fault_of_metadata(alloc, metadata.as_slice())
-}
-
-// The number of writes in a delete with this version, if it has no fault.
-fn count_with_version(alloc: Global, version: &[u8]) -> Result<Option<usize>, AllocError> {
-    let body = joined(
-        alloc,
-        &[
-            b"{\"delete\":{\"_id\":7,\"_index\":\"b\",\"version\":",
-            version,
-            b",\"version_type\":\"external\"}}\n",
-        ],
-    )?;
-    Ok(count(alloc, &body))
 }
 
 #[test]
 fn first_and_last_version(rt: HostRuntime) {
     for version in [b"0".as_slice(), b"9000000000000000000"] {
-        assert!(rt; count_with_version(rt.alloc(), version) == Ok(Some(1)));
+        let body = joined(
+            &rt,
+            rt.alloc(),
+            &[
+                b"{\"delete\":{\"_id\":7,\"_index\":\"b\",\"version\":",
+                version,
+                b",\"version_type\":\"external\"}}\n",
+            ],
+        );
+        assert!(rt; count(rt.alloc(), body.as_slice()) == Some(1));
     }
 }
 
@@ -155,21 +127,18 @@ const BAD_VERSIONS: &[(&[u8], &[u8])] = &[
 fn versions(rt: HostRuntime) {
     let missing = at(1, LineKind::VersionMissing);
     for (version, version_type) in BAD_VERSIONS {
-        assert!(rt; fault_of_version(rt.alloc(), *version, *version_type) == Ok(missing));
+        let metadata = joined(
+            &rt,
+            rt.alloc(),
+            &[
+                b"\"_id\":\"1\",\"_index\":\"b\",\"version\":",
+                *version,
+                b",\"version_type\":",
+                *version_type,
+            ],
+        );
+        assert!(rt; Some(fault_of_metadata(&rt, rt.alloc(), metadata.as_slice())) == missing);
     }
-}
-
-// The fault of a source after its action line, if it is the same after another write.
-fn fault_of_source(alloc: Global, source: &[u8]) -> Result<Option<BulkFault>, AllocError> {
-    let Some(fault) = fault_of(alloc, &[INDEX, source])? else {
-        return Ok(None);
-    };
-    let later = fault_of(alloc, &[INDEX, b"[\n", INDEX, source])?;
-    Ok(if later == at(4, fault.kind) {
-        Some(fault)
-    } else {
-        None
-    })
 }
 
 const BAD_SOURCES: &[(&[u8], LineKind)] = &[
@@ -180,10 +149,13 @@ const BAD_SOURCES: &[(&[u8], LineKind)] = &[
     (b"\xff", LineKind::NoFinalNewline),
 ];
 
+// A source after its action line, and the same after another write.
 #[test]
 fn sources(rt: HostRuntime) {
     for (source, kind) in BAD_SOURCES {
-        assert!(rt; fault_of_source(rt.alloc(), *source) == Ok(at(2, *kind)));
+        let later = [INDEX, b"[\n", INDEX, *source];
+        assert!(rt; fault_of(&rt, rt.alloc(), &[INDEX, *source]) == at(2, *kind));
+        assert!(rt; fault_of(&rt, rt.alloc(), &later) == at(4, *kind));
     }
 }
 
@@ -200,7 +172,7 @@ const MISSING_SOURCES: &[([&[u8]; 3], u64, LineKind)] = &[
 #[test]
 fn sources_that_are_missing(rt: HostRuntime) {
     for (pieces, line, kind) in MISSING_SOURCES {
-        assert!(rt; fault_of(rt.alloc(), pieces) == Ok(at(*line, *kind)));
+        assert!(rt; fault_of(&rt, rt.alloc(), pieces) == at(*line, *kind));
     }
 }
 
@@ -219,24 +191,20 @@ const OPEN_LINES: &[([&[u8]; 3], u64, LineKind)] = &[
 #[test]
 fn open_lines(rt: HostRuntime) {
     for (pieces, line, kind) in OPEN_LINES {
-        assert!(rt; fault_of(rt.alloc(), pieces) == Ok(at(*line, *kind)));
+        assert!(rt; fault_of(&rt, rt.alloc(), pieces) == at(*line, *kind));
     }
 }
 
 // The same line with its end.
 #[test]
 fn a_line_that_ends(rt: HostRuntime) {
-    assert!(rt; fault_of(rt.alloc(), &[OPEN, b"\r\n"]) == Ok(None));
+    assert!(rt; fault_of(&rt, rt.alloc(), &[OPEN, b"\r\n"]).is_none());
 }
 
 // The fault of a body of a front, 1,114,112 bytes after it, and an end.
-fn fault_at_limit(
-    alloc: Global,
-    front: &[u8],
-    end: &[u8],
-) -> Result<Option<BulkFault>, AllocError> {
-    let long = Vec::from_elem(alloc, b'x', 1_114_112)?;
-    fault_of(alloc, &[front, &long, end])
+fn fault_at_limit(rt: &impl Abort, alloc: Global, front: &[u8], end: &[u8]) -> Option<BulkFault> {
+    let long = Vec::from_elem(alloc, b'x', 1_114_112).expect(rt, "memory");
+    fault_of(rt, alloc, &[front, &long, end])
 }
 
 const SOURCE_LONG: LineKind = LineKind::Action(ActionFault::SourceLong);
@@ -256,8 +224,8 @@ const AT_THEIR_LIMIT: &[(&[u8], LineKind, LineKind)] = &[
 #[test]
 fn lines_at_their_limit(rt: HostRuntime) {
     for (end, action, source) in AT_THEIR_LIMIT {
-        assert!(rt; fault_at_limit(rt.alloc(), b"", *end) == Ok(at(1, *action)));
-        assert!(rt; fault_at_limit(rt.alloc(), INDEX, *end) == Ok(at(2, *source)));
+        assert!(rt; fault_at_limit(&rt, rt.alloc(), b"", *end) == at(1, *action));
+        assert!(rt; fault_at_limit(&rt, rt.alloc(), INDEX, *end) == at(2, *source));
     }
 }
 
@@ -274,42 +242,23 @@ fn has_source(write: &Write, source: Option<&str>) -> bool {
     }
 }
 
-// Whether writes are these of the index `books`.
-fn are_books(writes: &[Write], wanted: &[(&str, u64, Option<&str>)]) -> bool {
-    let mut good = writes.len() == wanted.len();
-    for (write, (id, version, source)) in writes.iter().zip(wanted) {
-        good = good && write.key.index() == "books";
-        good = good && is_of(write, *id, *version) && has_source(write, *source);
-    }
-    good
-}
-
-// Whether the bulk text of writes is this.
-fn has_text(alloc: Global, writes: &[Write], text: &[u8]) -> bool {
-    match bulk_text(alloc, writes) {
-        Ok(found) => found.as_slice() == text,
-        Err(_) => false,
-    }
-}
-
 const TWO_LINES: &[u8] =
     b"{\"index\":{\"_id\":\"1\",\"_index\":\"books\",\"version\":1,\"version_type\":\"external\"}}\n{\"title\": \"Emma\"}\n{\"delete\":{\"_id\":\"2\",\"_index\":\"books\",\"version\":2,\"version_type\":\"external\"}}\n";
 
-const TWO_BOOKS: &[(&str, u64, Option<&str>)] = &[
-    ("1", 1, Some("{\"title\": \"Emma\"}")),
-    ("2", 2, None),
-];
-
-// Whether the text of two books reads as these books, and the books are written as that text.
-fn reads_and_writes(alloc: Global) -> Result<bool, BulkFault> {
-    let writes = read_bulk(alloc, TWO_LINES)?;
-    Ok(are_books(&writes, TWO_BOOKS) && has_text(alloc, &writes, TWO_LINES))
-}
-
-// What was written for two writes reads back as them.
+// What was written for two writes reads back as them, and they are written as that text.
 #[test]
 fn there_and_back(rt: HostRuntime) {
-    assert!(rt; reads_and_writes(rt.alloc()) == Ok(true));
+    let writes = read_bulk(rt.alloc(), TWO_LINES).expect(&rt, "two writes");
+    assert!(rt; writes.len() == 2);
+    for write in &writes {
+        assert!(rt; write.key.index() == "books");
+    }
+    assert!(rt; is_of(&writes[0], "1", 1));
+    assert!(rt; has_source(&writes[0], Some("{\"title\": \"Emma\"}")));
+    assert!(rt; is_of(&writes[1], "2", 2));
+    assert!(rt; has_source(&writes[1], None));
+    let text = bulk_text(rt.alloc(), &writes).expect(&rt, "memory");
+    assert!(rt; text.as_slice() == TWO_LINES);
 }
 
 #[test]
@@ -317,24 +266,15 @@ fn no_line_is_no_write(rt: HostRuntime) {
     assert!(rt; count(rt.alloc(), b"") == Some(0));
 }
 
-// Whether a body is one write with this id, version and source.
-fn is_one_write(alloc: Global, body: &[u8], id: &str, version: u64, source: &str) -> bool {
-    match read_bulk(alloc, body) {
-        Ok(writes) => {
-            writes.len() == 1
-                && is_of(&writes[0], id, version)
-                && has_source(&writes[0], Some(source))
-        }
-        Err(_) => false,
-    }
-}
-
 // Line ends with a carriage return, members in another order, and an id that is an integer.
 #[test]
 fn another_form(rt: HostRuntime) {
     let text =
         b"{\"index\":{\"version_type\":\"external\",\"version\":3,\"_index\":\"b\",\"_id\":-9}}\r\n{}\r\n";
-    assert!(rt; is_one_write(rt.alloc(), text, "-9", 3, "{}"));
+    let writes = read_bulk(rt.alloc(), text).expect(&rt, "a write");
+    assert!(rt; writes.len() == 1);
+    assert!(rt; is_of(&writes[0], "-9", 3));
+    assert!(rt; has_source(&writes[0], Some("{}")));
 }
 
 // A failed allocation has its own fault.
@@ -370,16 +310,12 @@ const NAMES: &[(LineKind, &str)] = &[
     (LineKind::Failed, "Failed"),
 ];
 
-// Whether a kind is printed as this text.
-fn is_printed_as(alloc: Global, kind: LineKind, text: &str) -> Result<bool, AllocError> {
-    Ok(format!(in alloc; "{kind}")?.as_str() == text)
-}
-
 // A kind is printed as its name.
 #[test]
 fn names(rt: HostRuntime) {
     for (kind, name) in NAMES {
-        let printed = is_printed_as(rt.alloc(), *kind, *name);
-        assert!(rt; kind.name() == *name && printed == Ok(true));
+        let printed = format!(in rt.alloc(); "{kind}").expect(&rt, "memory");
+        assert!(rt; kind.name() == *name);
+        assert!(rt; printed.as_str() == *name);
     }
 }

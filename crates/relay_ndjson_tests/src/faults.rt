@@ -1,11 +1,29 @@
 //! A table of the producer grammar: the first fault of an input, and lines at their limit.
+ghost use Rattle.std.specs.Prelude.{◌<◌};
+
 use relay_action::{ActionFault, MemStream};
 use relay_ndjson::{Input, InputFault, LineKind};
-use std::alloc::{AllocError, Global};
+use std::alloc::Global;
+use std::process::Abort;
 
 /// A fault of a kind on a line.
 pub fn at(line: u64, kind: LineKind) -> Option<InputFault> {
     Some(InputFault { line, kind })
+}
+
+/// A stream of these bytes that returns a few of them per read. One of its reads fails, unless
+/// that is 0.
+pub fn stream_of(
+    rt: &impl Abort,
+    alloc: Global,
+    bytes: &[u8],
+    piece: usize,
+    fail_at: u64,
+) -> MemStream
+    requires { 0 < piece }
+{
+    let input = bytes.to_vec(alloc).expect(rt, "memory");
+    MemStream::new(alloc, input, 0, piece, fail_at).expect(rt, "memory")
 }
 
 /// The fault, if the next result is Failed on its line.
@@ -31,12 +49,13 @@ fn first_fault(input: &mut Input<MemStream>) -> Option<InputFault> {
 
 // The first fault of an input in pieces, or the result after it if that is not Failed.
 fn fault_of(
+    rt: &impl Abort,
     alloc: Global,
     text: &[u8],
     default_index: Option<&str>,
-) -> Result<Option<InputFault>, AllocError> {
-    let stream = MemStream::new(alloc, text.to_vec(alloc)?, 0, 3, 0)?;
-    Ok(first_fault(&mut Input::new(alloc, stream, default_index)))
+) -> Option<InputFault> {
+    let stream = stream_of(rt, alloc, text, 3, 0);
+    first_fault(&mut Input::new(alloc, stream, default_index))
 }
 
 const WITHOUT_A_FAULT: &[&[u8]] = &[
@@ -48,7 +67,7 @@ const WITHOUT_A_FAULT: &[&[u8]] = &[
 #[test]
 fn inputs_without_a_fault(rt: HostRuntime) {
     for text in WITHOUT_A_FAULT {
-        assert!(rt; fault_of(rt.alloc(), *text, None) == Ok(None));
+        assert!(rt; fault_of(&rt, rt.alloc(), *text, None).is_none());
     }
 }
 
@@ -75,7 +94,7 @@ const NO_ACTION: &[(&[u8], u64, LineKind)] = &[
 #[test]
 fn lines_that_are_no_action(rt: HostRuntime) {
     for (text, line, kind) in NO_ACTION {
-        assert!(rt; fault_of(rt.alloc(), *text, None) == Ok(at(*line, *kind)));
+        assert!(rt; fault_of(&rt, rt.alloc(), *text, None) == at(*line, *kind));
     }
 }
 
@@ -99,7 +118,7 @@ const BAD_METADATA: &[(&[u8], LineKind)] = &[
 #[test]
 fn faults_of_metadata(rt: HostRuntime) {
     for (text, kind) in BAD_METADATA {
-        assert!(rt; fault_of(rt.alloc(), *text, None) == Ok(at(1, *kind)));
+        assert!(rt; fault_of(&rt, rt.alloc(), *text, None) == at(1, *kind));
     }
 }
 
@@ -125,7 +144,7 @@ const BAD_DOCUMENTS: &[(&[u8], LineKind)] = &[
 #[test]
 fn faults_of_documents(rt: HostRuntime) {
     for (text, kind) in BAD_DOCUMENTS {
-        assert!(rt; fault_of(rt.alloc(), *text, None) == Ok(at(1, *kind)));
+        assert!(rt; fault_of(&rt, rt.alloc(), *text, None) == at(1, *kind));
     }
 }
 
@@ -165,7 +184,7 @@ const BAD_SOURCES: &[(&[u8], u64, LineKind)] = &[
 #[test]
 fn faults_of_sources(rt: HostRuntime) {
     for (text, line, kind) in BAD_SOURCES {
-        assert!(rt; fault_of(rt.alloc(), *text, None) == Ok(at(*line, *kind)));
+        assert!(rt; fault_of(&rt, rt.alloc(), *text, None) == at(*line, *kind));
     }
 }
 
@@ -173,15 +192,15 @@ fn faults_of_sources(rt: HostRuntime) {
 fn default_index(rt: HostRuntime) {
     let text = b"{\"delete\":{\"_id\":\"1\"}}\n";
     let empty = at(1, LineKind::Action(ActionFault::IndexEmpty));
-    assert!(rt; fault_of(rt.alloc(), text, Some("b")) == Ok(None));
-    assert!(rt; fault_of(rt.alloc(), text, Some("")) == Ok(empty));
+    assert!(rt; fault_of(&rt, rt.alloc(), text, Some("b")).is_none());
+    assert!(rt; fault_of(&rt, rt.alloc(), text, Some("")) == empty);
 }
 
 // The first fault of an input of 65,536 blank lines and an end.
-fn fault_after_blank_lines(alloc: Global, end: &[u8]) -> Result<Option<InputFault>, AllocError> {
-    let mut text = Vec::from_elem(alloc, b'\n', 65_536)?;
-    text.extend_from_slice(end)?;
-    fault_of(alloc, &text, None)
+fn fault_after_blank_lines(rt: &impl Abort, alloc: Global, end: &[u8]) -> Option<InputFault> {
+    let mut text = Vec::from_elem(alloc, b'\n', 65_536).expect(rt, "memory");
+    text.extend_from_slice(end).expect(rt, "memory");
+    fault_of(rt, alloc, &text, None)
 }
 
 const AFTER_BLANK_LINES: &[(&[u8], LineKind)] = &[
@@ -191,18 +210,18 @@ const AFTER_BLANK_LINES: &[(&[u8], LineKind)] = &[
 
 #[test]
 fn blank_lines_at_their_limit(rt: HostRuntime) {
-    assert!(rt; fault_after_blank_lines(rt.alloc(), b"") == Ok(None));
+    assert!(rt; fault_after_blank_lines(&rt, rt.alloc(), b"").is_none());
     for (end, kind) in AFTER_BLANK_LINES {
-        assert!(rt; fault_after_blank_lines(rt.alloc(), *end) == Ok(at(65_537, *kind)));
+        assert!(rt; fault_after_blank_lines(&rt, rt.alloc(), *end) == at(65_537, *kind));
     }
 }
 
 // The first fault of an input of 1,114,112 bytes and an end.
-fn fault_at_limit(alloc: Global, end: &[u8]) -> Result<Option<InputFault>, AllocError> {
-    let mut text = Vec::from_elem(alloc, b'x', 1_114_112)?;
-    text.extend_from_slice(end)?;
-    let stream = MemStream::new(alloc, text, 0, 50_000, 0)?;
-    Ok(Input::new(alloc, stream, None).next().err())
+fn fault_at_limit(rt: &impl Abort, alloc: Global, end: &[u8]) -> Option<InputFault> {
+    let mut text = Vec::from_elem(alloc, b'x', 1_114_112).expect(rt, "memory");
+    text.extend_from_slice(end).expect(rt, "memory");
+    let stream = MemStream::new(alloc, text, 0, 50_000, 0).expect(rt, "memory");
+    Input::new(alloc, stream, None).next().err()
 }
 
 // Lines of 1,114,112 bytes and of one more, with each end. Their text is not JSON, which is found
@@ -220,6 +239,6 @@ const AT_THEIR_LIMIT: &[(&[u8], LineKind)] = &[
 #[test]
 fn lines_at_their_limit(rt: HostRuntime) {
     for (end, kind) in AT_THEIR_LIMIT {
-        assert!(rt; fault_at_limit(rt.alloc(), *end) == Ok(at(1, *kind)));
+        assert!(rt; fault_at_limit(&rt, rt.alloc(), *end) == at(1, *kind));
     }
 }

@@ -1,8 +1,9 @@
 //! The operations of an input and their lines, and failures in the middle.
-use crate::faults::{at, settled};
+use crate::faults::{at, settled, stream_of};
 use relay_action::{Action, DocKey, MemStream};
 use relay_ndjson::{Input, InputFault, LineKind, Parser};
 use std::alloc::{AllocError, Global};
+use std::process::Abort;
 
 // Whether a document has this id and this index.
 fn is_of(key: &DocKey, id: &str, index: &str) -> bool {
@@ -31,28 +32,24 @@ fn ends(input: &mut Input<MemStream>) -> bool {
 }
 
 // An input in pieces of five bytes, with the default index `b`.
-fn input_of(alloc: Global, text: &[u8]) -> Result<Input<'static, MemStream>, AllocError> {
-    let stream = MemStream::new(alloc, text.to_vec(alloc)?, 0, 5, 0)?;
-    Ok(Input::new(alloc, stream, Some("b")))
+fn input_of(rt: &impl Abort, alloc: Global, text: &[u8]) -> Input<'static, MemStream> {
+    let stream = stream_of(rt, alloc, text, 5, 0);
+    Input::new(alloc, stream, Some("b"))
 }
 
-// Whether the input has a delete and a write, on the lines 1 and 3, and then no more, however often
-// it is asked.
-fn gives_two(input: &mut Input<MemStream>) -> bool {
-    input.line() == 0
-        && gives(input, "7", "b", None)
-        && input.line() == 1
-        && gives(input, "-9", "c", Some("{\"a\":1}"))
-        && input.line() == 3
-        && ends(input)
-        && ends(input)
-}
-
+// The input has a delete and a write, on the lines 1 and 3, and then no more, however often it is
+// asked.
 #[test]
 fn operations_and_their_lines(rt: HostRuntime) {
     let text = b"{\"delete\":{\"_id\":7}}\n\n{\"index\":{\"_id\":-9,\"_index\":\"c\"}}\n{\"a\":1}";
-    let found = input_of(rt.alloc(), text).map(|mut input| gives_two(&mut input));
-    assert!(rt; found == Ok(true));
+    let mut input = input_of(&rt, rt.alloc(), text);
+    assert!(rt; input.line() == 0);
+    assert!(rt; gives(&mut input, "7", "b", None));
+    assert!(rt; input.line() == 1);
+    assert!(rt; gives(&mut input, "-9", "c", Some("{\"a\":1}")));
+    assert!(rt; input.line() == 3);
+    assert!(rt; ends(&mut input));
+    assert!(rt; ends(&mut input));
 }
 
 // Lines in the usual form and in others, and their meaning.
@@ -121,23 +118,14 @@ const FORMS: &[(&[u8], &str, &str, Option<&str>)] = &[
     ),
 ];
 
-// Whether a text is one operation, on this document with this source.
-fn is_operation(
-    alloc: Global,
-    text: &[u8],
-    id: &str,
-    index: &str,
-    source: Option<&str>,
-) -> Result<bool, AllocError> {
-    let mut input = input_of(alloc, text)?;
-    Ok(gives(&mut input, id, index, source) && ends(&mut input))
-}
-
-// The same is read from a line in the usual form and from one in another form.
+// The same is read from a line in the usual form and from one in another form. Each text is one
+// operation.
 #[test]
 fn forms_of_action_lines(rt: HostRuntime) {
     for (text, id, index, source) in FORMS {
-        assert!(rt; is_operation(rt.alloc(), *text, *id, *index, *source) == Ok(true));
+        let mut input = input_of(&rt, rt.alloc(), *text);
+        assert!(rt; gives(&mut input, *id, *index, *source));
+        assert!(rt; ends(&mut input));
     }
 }
 
@@ -160,9 +148,9 @@ const TWO_DELETES: &[u8] =
 
 // The operations and the first fault of two deletes with a blank line between them, if this read
 // fails. Nine bytes arrive at a time.
-fn failed_read(alloc: Global, fail_at: u64) -> Result<(u64, Option<InputFault>), AllocError> {
-    let stream = MemStream::new(alloc, TWO_DELETES.to_vec(alloc)?, 0, 9, fail_at)?;
-    Ok(given_until(&mut Input::new(alloc, stream, None)))
+fn failed_read(rt: &impl Abort, alloc: Global, fail_at: u64) -> (u64, Option<InputFault>) {
+    let stream = stream_of(rt, alloc, TWO_DELETES, 9, fail_at);
+    given_until(&mut Input::new(alloc, stream, None))
 }
 
 // How many operations precede each failed read, and which line was being read.
@@ -186,53 +174,38 @@ fn each_read_fails_in_turn(rt: HostRuntime) {
     let mut fail_at = 0u64;
     for (given, line) in BEFORE_READS {
         fail_at = fail_at.saturating_add(1);
-        assert!(rt; failed_read(rt.alloc(), fail_at) == Ok((*given, at(*line, LineKind::Read))));
+        assert!(rt; failed_read(&rt, rt.alloc(), fail_at) == (*given, at(*line, LineKind::Read)));
     }
     for fail_at in 11..20u64 {
-        assert!(rt; failed_read(rt.alloc(), fail_at) == Ok((2, None)));
+        assert!(rt; failed_read(&rt, rt.alloc(), fail_at) == (2, None));
     }
 }
 
 // Whether a parser needs no read for each result, and whether the result is an operation.
 const STEPS: &[(bool, bool)] = &[(false, true), (true, true), (false, false)];
 
-// Whether a parser goes through these steps.
-fn steps(parser: &mut Parser, stream: &mut MemStream) -> bool {
-    let mut good = true;
-    for (ready, more) in STEPS {
-        let is_ready = parser.is_ready();
-        let next = parser.next(stream).map(|next| next.is_some());
-        good = good && is_ready == *ready && next == Ok(*more);
-    }
-    good
-}
-
-// Whether a parser goes through these steps if the text is read in one piece.
-fn is_parsed_in_steps(alloc: Global, text: &[u8]) -> Result<bool, AllocError> {
-    let mut stream = MemStream::new(alloc, text.to_vec(alloc)?, 0, 1000, 0)?;
-    let mut parser = Parser::new(alloc, None);
-    Ok(steps(&mut parser, &mut stream))
-}
-
-// Whether the next call of a parser needs no read.
+// Whether the next call of a parser needs no read. The text is read in one piece.
 #[test]
 fn readiness_of_a_parser(rt: HostRuntime) {
     let text =
         b"{\"delete\":{\"_id\":\"1\",\"_index\":\"b\"}}\n\r\n{\"delete\":{\"_id\":\"2\",\"_index\":\"b\"}}\n\n";
-    assert!(rt; is_parsed_in_steps(rt.alloc(), text) == Ok(true));
+    let mut stream = stream_of(&rt, rt.alloc(), text, 1000, 0);
+    let mut parser = Parser::new(rt.alloc(), None);
+    for (ready, more) in STEPS {
+        assert!(rt; parser.is_ready() == *ready);
+        let next = parser.next(&mut stream).map(|next| next.is_some());
+        assert!(rt; next == Ok(*more));
+    }
 }
 
-// Whether an input says twice that the next call may need a read, and then ends.
-fn ends_twice(input: &mut Input<MemStream>) -> bool {
-    let first = !input.is_ready() && ends(input);
-    first && !input.is_ready() && ends(input)
-}
-
-// Whether the next call of an input needs no read.
+// Whether the next call of an input needs no read. It says twice that it may need one, and ends.
 #[test]
 fn readiness_of_an_input(rt: HostRuntime) {
-    let found = input_of(rt.alloc(), b"\n\n\n\n").map(|mut input| ends_twice(&mut input));
-    assert!(rt; found == Ok(true));
+    let mut input = input_of(&rt, rt.alloc(), b"\n\n\n\n");
+    for _ in 0..2u8 {
+        assert!(rt; !input.is_ready());
+        assert!(rt; ends(&mut input));
+    }
 }
 
 // The faults of the first and the second call, for an input of one delete.

@@ -1,7 +1,9 @@
 //! Lines one after another, for readers of other formats, and the lines of operations.
+use crate::faults::{at, stream_of};
 use relay_action::{Action, ActionKind, MemStream};
 use relay_ndjson::{InputFault, LineEnd, LineKind, LineReader};
-use std::alloc::{AllocError, Global};
+use std::alloc::Global;
+use std::process::Abort;
 
 const INPUT: &[u8] = b"a b\r\n\nc\rd\n\re\r";
 
@@ -17,55 +19,36 @@ fn is_line(lines: &LineReader, text: &[u8], end: LineEnd, number: u64) -> bool {
     lines.text() == text && lines.end() == end && lines.count() == number
 }
 
-/// Whether the next lines of the stream are exactly those of the input, with their numbers; and if
-/// the first read returned all of it, whether the first two leave a line ready.
-fn takes_lines(
-    lines: &mut LineReader,
-    stream: &mut MemStream,
-    whole: bool,
-) -> Result<bool, InputFault> {
-    let mut good = !lines.is_ready();
-    let mut number: u64 = 0;
-    for (text, end) in TEXTS {
-        number = number.saturating_add(1);
-        let found = lines.next(stream)?;
-        good = good && found && is_line(lines, *text, *end, number);
-        good = good && (!whole || lines.is_ready() == (number < 3));
-    }
-    Ok(good && !lines.next(stream)? && lines.count() == 4)
-}
-
-/// Whether the lines of the input are taken like this from pieces of this many bytes.
-fn has_lines(alloc: Global, piece: usize) -> Result<bool, AllocError> {
-    let mut stream = MemStream::new(alloc, INPUT.to_vec(alloc)?, 0, piece.max(1), 0)?;
-    let mut lines = LineReader::new(alloc);
-    let whole = piece >= INPUT.len();
-    Ok(takes_lines(&mut lines, &mut stream, whole) == Ok(true))
-}
-
+// The lines of the input, with their numbers, from pieces of several sizes. If the first read
+// returned all of it, the first two leave a line ready.
 #[test]
 fn lines_one_after_another(rt: HostRuntime) {
     for piece in [1usize, 3, 100] {
-        assert!(rt; has_lines(rt.alloc(), piece) == Ok(true));
-    }
-}
-
-/// The number of lines, and that of the fault, if the second read fails after two lines.
-fn counted_after_a_fault(alloc: Global) -> Result<Option<(u64, u64)>, AllocError> {
-    let mut stream = MemStream::new(alloc, INPUT.to_vec(alloc)?, 0, 6, 2)?;
-    let mut lines = LineReader::new(alloc);
-    for _ in 0..3u64 {
-        match lines.next(&mut stream) {
-            Ok(_) => {}
-            Err(fault) => return Ok(Some((lines.count(), fault.line))),
+        let mut stream = stream_of(&rt, rt.alloc(), INPUT, piece.max(1), 0);
+        let mut lines = LineReader::new(rt.alloc());
+        assert!(rt; !lines.is_ready());
+        let mut number: u64 = 0;
+        for (text, end) in TEXTS {
+            number = number.saturating_add(1);
+            assert!(rt; lines.next(&mut stream) == Ok(true));
+            assert!(rt; is_line(&lines, *text, *end, number));
+            assert!(rt; piece < INPUT.len() || lines.is_ready() == (number < 3));
         }
+        assert!(rt; lines.next(&mut stream) == Ok(false));
+        assert!(rt; lines.count() == 4);
     }
-    Ok(None)
 }
 
+// The second read fails after two lines.
 #[test]
 fn a_line_that_is_not_whole_is_not_counted(rt: HostRuntime) {
-    assert!(rt; counted_after_a_fault(rt.alloc()) == Ok(Some((2, 3))));
+    let mut stream = stream_of(&rt, rt.alloc(), INPUT, 6, 2);
+    let mut lines = LineReader::new(rt.alloc());
+    assert!(rt; lines.next(&mut stream) == Ok(true));
+    assert!(rt; lines.next(&mut stream) == Ok(true));
+    let fault = lines.next(&mut stream).expect_err(&rt, "a read fails");
+    assert!(rt; fault.line == 3);
+    assert!(rt; lines.count() == 2);
 }
 
 const ENDS: &[(LineEnd, &[u8])] = &[
@@ -95,94 +78,72 @@ fn asks(
     alloc: Global,
     stream: &mut MemStream,
     wanted: (ActionKind, &str, &str),
-) -> Result<bool, InputFault> {
+) -> bool {
     match lines.next_action(alloc, stream, Some("b")) {
-        Ok(Some((kind, key))) => Ok((kind, key.index(), key.id()) == wanted),
-        Ok(None) => Ok(false),
-        Err(fault) => Err(fault),
+        Ok(Some((kind, key))) => (kind, key.index(), key.id()) == wanted,
+        _ => false,
     }
 }
 
 /// Whether the next line is this source.
-fn stores(
-    lines: &mut LineReader,
-    alloc: Global,
-    stream: &mut MemStream,
-    text: &str,
-) -> Result<bool, InputFault> {
+fn stores(lines: &mut LineReader, alloc: Global, stream: &mut MemStream, text: &str) -> bool {
     match lines.next_source(alloc, stream) {
-        Ok(Action::Index(source)) => Ok(source.text() == text),
-        Ok(Action::Delete) => Ok(false),
-        Err(fault) => Err(fault),
+        Ok(Action::Index(source)) => source.text() == text,
+        _ => false,
     }
 }
 
-/// Whether exactly the two operations are taken, with their lines.
-fn takes_operations(
-    lines: &mut LineReader,
-    alloc: Global,
-    stream: &mut MemStream,
-) -> Result<bool, InputFault> {
-    let deletes = asks(lines, alloc, stream, (ActionKind::Delete, "c", "1"))?
-        && is_line(lines, DELETE, LineEnd::ReturnFeed, 2);
-    let indexes = asks(lines, alloc, stream, (ActionKind::Index, "b", "2"))?
-        && is_line(lines, INDEX, LineEnd::Feed, 4);
-    let stored = stores(lines, alloc, stream, " {\"a\":1}")?
-        && is_line(lines, b" {\"a\":1}", LineEnd::Open, 5);
-    let more = asks(lines, alloc, stream, (ActionKind::Index, "b", "2"))?;
-    Ok(deletes && indexes && stored && !more && lines.count() == 5)
+/// Whether there is no further action line.
+fn ends(lines: &mut LineReader, alloc: Global, stream: &mut MemStream) -> bool {
+    matches!(lines.next_action(alloc, stream, Some("b")), Ok(None))
 }
 
-fn has_operations(alloc: Global, piece: usize) -> Result<bool, AllocError> {
-    let mut stream = MemStream::new(alloc, OPERATIONS.to_vec(alloc)?, 0, piece.max(1), 0)?;
-    let mut lines = LineReader::new(alloc);
-    Ok(takes_operations(&mut lines, alloc, &mut stream) == Ok(true))
-}
-
+// Exactly the two operations are taken, with their lines.
 #[test]
 fn lines_of_operations(rt: HostRuntime) {
+    let alloc = rt.alloc();
     for piece in [1usize, 7, 100] {
-        assert!(rt; has_operations(rt.alloc(), piece) == Ok(true));
+        let mut stream = stream_of(&rt, alloc, OPERATIONS, piece.max(1), 0);
+        let mut lines = LineReader::new(alloc);
+        let delete = (ActionKind::Delete, "c", "1");
+        assert!(rt; asks(&mut lines, alloc, &mut stream, delete));
+        assert!(rt; is_line(&lines, DELETE, LineEnd::ReturnFeed, 2));
+        let index = (ActionKind::Index, "b", "2");
+        assert!(rt; asks(&mut lines, alloc, &mut stream, index));
+        assert!(rt; is_line(&lines, INDEX, LineEnd::Feed, 4));
+        assert!(rt; stores(&mut lines, alloc, &mut stream, " {\"a\":1}"));
+        assert!(rt; is_line(&lines, b" {\"a\":1}", LineEnd::Open, 5));
+        assert!(rt; ends(&mut lines, alloc, &mut stream));
+        assert!(rt; lines.count() == 5);
     }
 }
 
-/// The fault of the source after the action line of an input, as its line and kind.
-fn source_fault(alloc: Global, input: &[u8]) -> Result<Option<(u64, LineKind)>, AllocError> {
-    let mut stream = MemStream::new(alloc, input.to_vec(alloc)?, 0, 100, 0)?;
+/// The fault of the source after the action line of an input.
+fn source_fault(rt: &impl Abort, alloc: Global, input: &[u8]) -> Option<InputFault> {
+    let mut stream = stream_of(rt, alloc, input, 100, 0);
     let mut lines = LineReader::new(alloc);
-    if asks(
-        &mut lines,
-        alloc,
-        &mut stream,
-        (ActionKind::Index, "b", "2"),
-    ) != Ok(true)
-    {
-        return Ok(None);
-    }
-    match stores(&mut lines, alloc, &mut stream, "") {
-        Ok(_) => Ok(None),
-        Err(fault) => Ok(Some((fault.line, fault.kind))),
-    }
+    let index = (ActionKind::Index, "b", "2");
+    assert!(rt; asks(&mut lines, alloc, &mut stream, index));
+    lines.next_source(alloc, &mut stream).err()
 }
 
-const SOURCES: &[(&[u8], (u64, LineKind))] = &[
-    (
-        b"\n{\"index\":{\"_id\":\"2\"}}",
-        (2, LineKind::SourceMissing),
-    ),
+const SOURCES: &[(&[u8], u64, LineKind)] = &[
+    (b"\n{\"index\":{\"_id\":\"2\"}}", 2, LineKind::SourceMissing),
     (
         b"\n{\"index\":{\"_id\":\"2\"}}\r\n",
-        (2, LineKind::SourceMissing),
+        2,
+        LineKind::SourceMissing,
     ),
     (
         b"\n{\"index\":{\"_id\":\"2\"}}\n\xff\n",
-        (3, LineKind::NotJson),
+        3,
+        LineKind::NotJson,
     ),
 ];
 
 #[test]
 fn faults_of_a_source_line(rt: HostRuntime) {
-    for (input, fault) in SOURCES {
-        assert!(rt; source_fault(rt.alloc(), *input) == Ok(Some(*fault)));
+    for (input, line, kind) in SOURCES {
+        assert!(rt; source_fault(&rt, rt.alloc(), *input) == at(*line, *kind));
     }
 }
