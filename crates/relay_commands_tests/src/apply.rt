@@ -2,9 +2,9 @@
 //! call.
 use relay_action::MemStream;
 use relay_commands::apply::{ApplyFault, BODY_LIMIT, apply};
-use relay_commands::refuse_list::{ListFault, refuse_list};
+use relay_commands::refuse_list::refuse_list;
 use relay_index::{Index, Script};
-use std::alloc::{AllocError, Global};
+use std::process::Abort;
 
 pub const TWO: &[u8] =
     b"{\"delete\":{\"_id\":\"1\",\"_index\":\"b\",\"version\":1,\"version_type\":\"external\"}}\n{\"delete\":{\"_id\":\"2\",\"_index\":\"b\",\"version\":2,\"version_type\":\"external\"}}\n";
@@ -18,111 +18,74 @@ const NO_LAST_LINE_END: &[u8] =
 pub const SECOND_REFUSED: &[u8] =
     b"200\n{\"errors\":true,\"items\":[{\"delete\":{\"_id\":\"1\",\"_index\":\"b\",\"_seq_no\":0,\"_version\":1,\"result\":\"not_found\",\"status\":404}},{\"delete\":{\"_id\":\"2\",\"_index\":\"b\",\"error\":{\"type\":\"scripted_refusal\"},\"status\":429}}],\"took\":0}\n";
 
-// The streams of one call: a body to read, and room for what is written.
-#[derive(Drop)]
-struct Streams {
-    reader: MemStream,
-    writer: MemStream,
+// A stream of these bytes in pieces, with room for this many more, one call of which fails (0: none).
+pub fn stream_of(
+    rt: &(impl Abort + AllocGlobal),
+    bytes: &[u8],
+    room: usize,
+    piece: usize,
+    fails: u64,
+) -> MemStream {
+    let bytes = bytes.to_vec(rt.alloc()).expect(rt, "memory");
+    MemStream::new(rt.alloc(), bytes, room, piece.max(1), fails).expect(rt, "memory")
 }
 
-// The streams of a body in pieces, with one failing call of the reader and one of the writer (0:
-// none).
-fn streams_of(alloc: Global, body: &[u8], calls: (usize, u64, u64)) -> Result<Streams, AllocError> {
-    let (piece, read_fails, write_fails) = calls;
-    let piece = piece.max(1);
-    Ok(Streams {
-        reader: MemStream::new(alloc, body.to_vec(alloc)?, 0, piece, read_fails)?,
-        writer: MemStream::new(alloc, Vec::new(alloc), 1000, piece, write_fails)?,
-    })
-}
-
-// Whether `apply` has this result under a script, and writes this.
-fn answers(
-    alloc: Global,
-    streams: &mut Streams,
+// Whether `apply` has this result for a body in pieces under a script, with one failing call of the
+// reader and one of the writer (0: none), and writes this.
+fn gives_under(
+    rt: &(impl Abort + AllocGlobal),
     script: Script,
-    answer: Result<(), ApplyFault>,
-    written: &[u8],
-) -> bool {
-    let found = apply(
-        alloc,
-        &mut streams.reader,
-        &mut streams.writer,
-        Index::new(alloc),
-        script,
-    );
-    found == answer && streams.writer.written() == written
-}
-
-// Whether `apply` has this result for a body in pieces, with these failing calls, and writes this.
-fn gives(
-    alloc: Global,
     body: &[u8],
     calls: (usize, u64, u64),
     answer: Result<(), ApplyFault>,
     written: &[u8],
-) -> Result<bool, AllocError> {
-    let mut streams = streams_of(alloc, body, calls)?;
-    Ok(answers(alloc, &mut streams, Script::new(alloc), answer, written))
+) -> bool {
+    let (piece, read_fails, write_fails) = calls;
+    let mut reader = stream_of(rt, body, 0, piece, read_fails);
+    let mut writer = stream_of(rt, b"", 1000, piece, write_fails);
+    let index = Index::new(rt.alloc());
+    let found = apply(rt.alloc(), &mut reader, &mut writer, index, script);
+    found == answer && writer.written() == written
+}
+
+// Whether `apply` has this result for a body in pieces, with these failing calls, and writes this.
+fn gives(
+    rt: &(impl Abort + AllocGlobal),
+    body: &[u8],
+    calls: (usize, u64, u64),
+    answer: Result<(), ApplyFault>,
+    written: &[u8],
+) -> bool {
+    gives_under(rt, Script::new(rt.alloc()), body, calls, answer, written)
 }
 
 #[test]
 fn a_request_of_two(rt: HostRuntime) {
     for piece in [1usize, 7, 100_000] {
-        assert!(rt; gives(rt.alloc(), TWO, (piece, 0, 0), Ok(()), TWO_ANSWER) == Ok(true));
+        assert!(rt; gives(&rt, TWO, (piece, 0, 0), Ok(()), TWO_ANSWER));
     }
-}
-
-// Whether `apply` has this result for two deletes under the script of a list, and writes this.
-fn gives_under(
-    alloc: Global,
-    streams: &mut Streams,
-    list: &str,
-    written: &[u8],
-) -> Result<bool, ListFault> {
-    let script = refuse_list(alloc, list)?;
-    Ok(answers(alloc, streams, script, Ok(()), written))
 }
 
 #[test]
 fn a_scripted_refusal(rt: HostRuntime) {
-    let alloc = rt.alloc();
-    let found = streams_of(alloc, TWO, (100, 0, 0)).map(|mut streams| gives_under(
-        alloc,
-        &mut streams,
-        "2:429",
-        SECOND_REFUSED,
-    ) == Ok(true));
-    assert!(rt; found == Ok(true));
+    let script = refuse_list(rt.alloc(), "2:429").expect(&rt, "a list");
+    assert!(rt; gives_under(&rt, script, TWO, (100, 0, 0), Ok(()), SECOND_REFUSED));
 }
 
 #[test]
 fn no_bulk_request(rt: HostRuntime) {
     let body = &TWO[..TWO.len() - 1];
-    assert!(rt; gives(rt.alloc(), body, (100, 0, 0), Ok(()), NO_LAST_LINE_END) == Ok(true));
-}
-
-// The result of `apply` for a body, and whether it wrote nothing.
-fn of_body(
-    alloc: Global,
-    reader: &mut MemStream,
-) -> Result<(Option<ApplyFault>, bool), AllocError> {
-    let mut writer = MemStream::new(alloc, Vec::new(alloc), 1000, 1000, 0)?;
-    let found = apply(
-        alloc,
-        reader,
-        &mut writer,
-        Index::new(alloc),
-        Script::new(alloc),
-    );
-    Ok((found.err(), writer.written().is_empty()))
+    assert!(rt; gives(&rt, body, (100, 0, 0), Ok(()), NO_LAST_LINE_END));
 }
 
 // The result of `apply` for this many spaces, and whether it wrote nothing.
-fn of_spaces(alloc: Global, size: usize) -> Result<(Option<ApplyFault>, bool), AllocError> {
-    let body = Vec::from_elem(alloc, b' ', size)?;
-    let mut reader = MemStream::new(alloc, body, 0, 1_000_000, 0)?;
-    of_body(alloc, &mut reader)
+fn of_spaces(rt: &(impl Abort + AllocGlobal), size: usize) -> (Option<ApplyFault>, bool) {
+    let body = Vec::from_elem(rt.alloc(), b' ', size).expect(rt, "memory");
+    let mut reader = stream_of(rt, &body, 0, 1_000_000, 0);
+    let mut writer = stream_of(rt, b"", 1000, 1000, 0);
+    let (index, script) = (Index::new(rt.alloc()), Script::new(rt.alloc()));
+    let found = apply(rt.alloc(), &mut reader, &mut writer, index, script);
+    (found.err(), writer.written().is_empty())
 }
 
 const AT_THEIR_LIMIT: &[(usize, Option<ApplyFault>, bool)] = &[
@@ -135,40 +98,29 @@ const AT_THEIR_LIMIT: &[(usize, Option<ApplyFault>, bool)] = &[
 #[test]
 fn bodies_at_their_limit(rt: HostRuntime) {
     for (size, fault, silent) in AT_THEIR_LIMIT {
-        assert!(rt;
-            of_spaces(rt.alloc(), *size) == Ok((*fault, *silent)),
-            "{size}"
-        );
+        assert!(rt; of_spaces(&rt, *size) == (*fault, *silent), "{size}");
     }
 }
 
 #[test]
 fn each_read_fails_in_turn(rt: HostRuntime) {
     for fail_at in 1..TWO.len() as u64 / 10 + 3 {
-        let found = gives(
-            rt.alloc(),
-            TWO,
-            (10, fail_at, 0),
-            Err(ApplyFault::Read),
-            b"",
-        );
-        assert!(rt; found == Ok(true), "{fail_at}");
+        let found = gives(&rt, TWO, (10, fail_at, 0), Err(ApplyFault::Read), b"");
+        assert!(rt; found, "{fail_at}");
     }
 }
 
 // Whether exactly the bytes before a failed write of one byte were written.
-fn is_right_at_write(alloc: Global, sent: usize) -> Result<bool, AllocError> {
+fn is_right_at_write(rt: &(impl Abort + AllocGlobal), sent: usize) -> bool {
     let fault = ApplyFault::Write { sent: sent as u64 };
     let calls = (1, 0, (sent as u64).saturating_add(1));
-    match TWO_ANSWER.get(..sent) {
-        Some(part) => gives(alloc, TWO, calls, Err(fault), part),
-        None => Ok(false),
-    }
+    let part = TWO_ANSWER.get(..sent).expect(rt, "a part of the answer");
+    gives(rt, TWO, calls, Err(fault), part)
 }
 
 #[test]
 fn each_write_fails_in_turn(rt: HostRuntime) {
     for sent in 0..TWO_ANSWER.len() {
-        assert!(rt; is_right_at_write(rt.alloc(), sent) == Ok(true), "{sent}");
+        assert!(rt; is_right_at_write(&rt, sent), "{sent}");
     }
 }

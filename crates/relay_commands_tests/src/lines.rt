@@ -1,9 +1,10 @@
 //! `lines` over streams in memory: the worked rows, failures in the middle, and what is written
 //! before them.
+use crate::apply::stream_of;
 use relay_action::{ActionFault, MemStream};
 use relay_commands::lines::{LinesFault, lines};
 use relay_ndjson::{InputFault, LineKind};
-use std::alloc::{AllocError, Global};
+use std::process::Abort;
 
 pub const TWO: &[u8] =
     b"{\"index\":{\"_index\":\"books\",\"_id\":\"1\"}}\n{\"title\": \"Emma\"}\n{\"delete\":{\"_id\":\"2\",\"_index\":\"books\"}}\n";
@@ -15,76 +16,49 @@ fn at(line: u64, kind: LineKind) -> Result<u64, LinesFault> {
     Err(LinesFault::Input(InputFault { line, kind }))
 }
 
-// The streams of one call: an input to read, and room for what is written.
-#[derive(Drop)]
-struct Streams {
-    reader: MemStream,
-    writer: MemStream,
-}
-
-impl Streams {
-    // The result of `lines` from a first version on.
-    fn run(
-        &mut self,
-        alloc: Global,
-        default_index: Option<&str>,
-        first: u64,
-    ) -> Result<u64, LinesFault> {
-        let first = first.min(9_000_000_000_000_000_000);
-        let Streams { reader, writer } = self;
-        lines(alloc, reader, writer, default_index, first)
-    }
-
-    // The length of what was written, if it is a prefix of TWO_LINES.
-    fn length(&self) -> Option<u64> {
-        let written = self.writer.written();
-        TWO_LINES
-            .starts_with(written)
-            .then_some(written.len() as u64)
-    }
-}
-
-// The streams of an input in pieces, with this much room for output, which is written in pieces
-// too, and with one failing call of the reader and one of the writer (0: none).
-fn streams_of(
-    alloc: Global,
+// The result of `lines` for an input in pieces, with a default index and from a first version on, and
+// what it writes to. That has this much room, and is written to in pieces too; one call of the reader
+// fails, and one of the writer (0: none).
+fn ran(
+    rt: &(impl Abort + AllocGlobal),
     input: (&[u8], u64, u64),
     output: (usize, u64, u64),
-) -> Result<Streams, AllocError> {
-    let (text, piece, read_fails) = input;
-    let (room, write_piece, write_fails) = output;
-    let text = text.to_vec(alloc)?;
-    Ok(Streams {
-        reader: MemStream::new(alloc, text, 0, piece.max(1) as usize, read_fails)?,
-        writer: MemStream::new(
-            alloc,
-            Vec::new(alloc),
-            room,
-            write_piece.max(1) as usize,
-            write_fails,
-        )?,
-    })
+    default_index: Option<&str>,
+    first: u64,
+) -> (Result<u64, LinesFault>, MemStream) {
+    let (text, piece, fails) = input;
+    let mut reader = stream_of(rt, text, 0, piece as usize, fails);
+    let (room, piece, fails) = output;
+    let mut writer = stream_of(rt, b"", room, piece as usize, fails);
+    let first = first.min(9_000_000_000_000_000_000);
+    let found = lines(rt.alloc(), &mut reader, &mut writer, default_index, first);
+    (found, writer)
 }
 
 // Whether `lines` has this result for an input in pieces, and writes this.
 fn gives(
-    alloc: Global,
+    rt: &(impl Abort + AllocGlobal),
     input: &[u8],
     settings: (Option<&str>, u64, u64),
     answer: Result<u64, LinesFault>,
     written: &[u8],
-) -> Result<bool, AllocError> {
+) -> bool {
     let (default_index, first, piece) = settings;
-    let mut streams = streams_of(alloc, (input, piece, 0), (1_000_000, piece, 0))?;
-    let found = streams.run(alloc, default_index, first);
-    Ok(found == answer && streams.writer.written() == written)
+    let (found, writer) = ran(
+        rt,
+        (input, piece, 0),
+        (1_000_000, piece, 0),
+        default_index,
+        first,
+    );
+    found == answer && writer.written() == written
 }
 
 #[test]
 fn two_operations(rt: HostRuntime) {
     assert!(rt; TWO_LINES.len() == 173);
     for piece in [1u64, 7, 100_000] {
-        assert!(rt; gives(rt.alloc(), TWO, (None, 1, piece), Ok(2), TWO_LINES) == Ok(true));
+        assert!(rt; gives(&rt, TWO, (None, 1, piece), Ok(2), TWO_LINES));
     }
 }
 
@@ -134,8 +108,7 @@ const WORKED: &[(&[u8], Option<&str>, Result<u64, LinesFault>, &[u8])] = &[
 #[test]
 fn worked_rows(rt: HostRuntime) {
     for (input, index, answer, written) in WORKED {
-        let found = gives(rt.alloc(), *input, (*index, 1, 5), *answer, *written);
-        assert!(rt; found == Ok(true));
+        assert!(rt; gives(&rt, *input, (*index, 1, 5), *answer, *written));
     }
 }
 
@@ -147,7 +120,7 @@ fn versions_end(rt: HostRuntime) {
     let written =
         b"{\"delete\":{\"_id\":\"1\",\"_index\":\"b\",\"version\":9000000000000000000,\"version_type\":\"external\"}}\n";
     let spent = Err(LinesFault::VersionsSpent { line: 2 });
-    assert!(rt; gives(rt.alloc(), input, (None, last, 9), spent, written) == Ok(true));
+    assert!(rt; gives(&rt, input, (None, last, 9), spent, written));
 }
 
 // The line that is being read after this many bytes of TWO, and the length of the text of the
@@ -164,19 +137,28 @@ fn reached(read: u64) -> (u64, u64) {
 // The result of `lines` for TWO, and the length of what it writes, if that is a prefix of
 // TWO_LINES. Both are in pieces, with one failing call each (0: none).
 fn of_two(
-    alloc: Global,
+    rt: &(impl Abort + AllocGlobal),
     reads: (u64, u64),
     writes: (u64, u64),
-) -> Result<(Result<u64, LinesFault>, Option<u64>), AllocError> {
-    let mut streams = streams_of(alloc, (TWO, reads.0, reads.1), (200, writes.0, writes.1))?;
-    let answer = streams.run(alloc, None, 1);
-    Ok((answer, streams.length()))
+) -> (Result<u64, LinesFault>, Option<u64>) {
+    let (found, writer) = ran(
+        rt,
+        (TWO, reads.0, reads.1),
+        (200, writes.0, writes.1),
+        None,
+        1,
+    );
+    let written = writer.written();
+    let length = TWO_LINES
+        .starts_with(written)
+        .then_some(written.len() as u64);
+    (found, length)
 }
 
 // Whether `lines` is right for TWO in pieces, if this call of the reader fails: it names the line
 // that was being read, after the text of the operations that were complete by then was written; or,
 // if the call is not made, both are written.
-fn is_right_at_read(alloc: Global, piece: u64, fail_at: u64) -> bool {
+fn is_right_at_read(rt: &(impl Abort + AllocGlobal), piece: u64, fail_at: u64) -> bool {
     let piece = piece.max(1);
     let reads = 97u64.div_ceil(piece);
     let (line, length) = reached(piece.saturating_mul(fail_at.saturating_sub(1)));
@@ -185,7 +167,7 @@ fn is_right_at_read(alloc: Global, piece: u64, fail_at: u64) -> bool {
     } else {
         at(line, LineKind::Read)
     };
-    of_two(alloc, (piece, fail_at), (50, 0)) == Ok((answer, Some(length)))
+    of_two(rt, (piece, fail_at), (50, 0)) == (answer, Some(length))
 }
 
 // Each call of the reader fails in turn, also byte by byte.
@@ -193,10 +175,7 @@ fn is_right_at_read(alloc: Global, piece: u64, fail_at: u64) -> bool {
 fn each_read_fails_in_turn(rt: HostRuntime) {
     assert!(rt; TWO.len() == 97);
     for (piece, fail_at) in (1..120u64).flat_map(|fail_at| [(1u64, fail_at), (9, fail_at)]) {
-        assert!(rt;
-            is_right_at_read(rt.alloc(), piece, fail_at),
-            "{piece} {fail_at}"
-        );
+        assert!(rt; is_right_at_read(&rt, piece, fail_at), "{piece} {fail_at}");
     }
 }
 
@@ -213,7 +192,7 @@ fn sent_in(calls: u64, piece: u64) -> u64 {
 
 // Whether `lines` is right for TWO, if this call of the writer fails: exactly the bytes before it
 // were written; or, if the call is not made, all.
-fn is_right_at_write(alloc: Global, piece: u64, fail_at: u64) -> bool {
+fn is_right_at_write(rt: &(impl Abort + AllocGlobal), piece: u64, fail_at: u64) -> bool {
     let piece = piece.max(1);
     let sent = sent_in(fail_at.saturating_sub(1), piece);
     let answer = if sent < 173 {
@@ -221,16 +200,13 @@ fn is_right_at_write(alloc: Global, piece: u64, fail_at: u64) -> bool {
     } else {
         Ok(2)
     };
-    of_two(alloc, (1000, 0), (piece, fail_at)) == Ok((answer, Some(sent)))
+    of_two(rt, (1000, 0), (piece, fail_at)) == (answer, Some(sent))
 }
 
 // Each call of the writer fails in turn, also byte by byte.
 #[test]
 fn each_write_fails_in_turn(rt: HostRuntime) {
     for (piece, fail_at) in (1..180u64).flat_map(|fail_at| [(1u64, fail_at), (20, fail_at)]) {
-        assert!(rt;
-            is_right_at_write(rt.alloc(), piece, fail_at),
-            "{piece} {fail_at}"
-        );
+        assert!(rt; is_right_at_write(&rt, piece, fail_at), "{piece} {fail_at}");
     }
 }

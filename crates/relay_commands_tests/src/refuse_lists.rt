@@ -1,8 +1,9 @@
 //! Lists of refusals, and what their scripts refuse.
-use relay_action::{ActionFault, DocKey};
+use relay_action::DocKey;
 use relay_commands::refuse_list::{ListFault, refuse_list};
-use relay_index::{Index, Script};
+use relay_index::Index;
 use std::alloc::Global;
+use std::process::Abort;
 
 const TWO: &[u8] =
     b"{\"delete\":{\"_id\":\"1\",\"_index\":\"b\",\"version\":1,\"version_type\":\"external\"}}\n{\"delete\":{\"_id\":\"2\",\"_index\":\"b\",\"version\":2,\"version_type\":\"external\"}}\n";
@@ -45,17 +46,18 @@ fn lists_that_are_none(rt: HostRuntime) {
 }
 
 // The version that an index stores for a document.
-fn version(alloc: Global, index: &Index, id: &str) -> Result<Option<u64>, ActionFault> {
-    let key = DocKey::new(alloc, "b", id)?;
-    Ok(index.version(&key))
+fn version(rt: &(impl Abort + AllocGlobal), index: &Index, id: &str) -> Option<u64> {
+    index.version(&DocKey::new(rt.alloc(), "b", id).expect(rt, "a key"))
 }
 
-// Whether an index runs the first of two writes under a script, and not the second.
-fn runs_the_first(alloc: Global, script: &mut Script) -> bool {
-    let mut index = Index::new(alloc);
-    index.serve_body(alloc, TWO, script).is_ok()
-        && version(alloc, &index, "1") == Ok(Some(1))
-        && version(alloc, &index, "2") == Ok(None)
+// Whether an index runs the first of two writes under the script of a list, and not the second.
+fn runs_the_first(rt: &(impl Abort + AllocGlobal), list: &str) -> bool {
+    let mut script = refuse_list(rt.alloc(), list).expect(rt, "a list");
+    let mut index = Index::new(rt.alloc());
+    index
+        .serve_body(rt.alloc(), TWO, &mut script)
+        .expect(rt, "memory");
+    version(rt, &index, "1") == Some(1) && version(rt, &index, "2") == None
 }
 
 const SECOND_REFUSED: &[&str] = &[
@@ -68,10 +70,6 @@ const SECOND_REFUSED: &[&str] = &[
 #[test]
 fn lists_of_refusals(rt: HostRuntime) {
     for list in SECOND_REFUSED {
-        let found = refuse_list(rt.alloc(), *list).map(|mut script| runs_the_first(
-            rt.alloc(),
-            &mut script,
-        ));
-        assert!(rt; found == Ok(true), "{list}");
+        assert!(rt; runs_the_first(&rt, *list), "{list}");
     }
 }

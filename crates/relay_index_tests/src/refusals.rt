@@ -111,44 +111,67 @@ fn count(alloc: Global, index: &Index) -> Option<u64> {
     Some(count)
 }
 
-// Whether a body is served with this status. If an allocation failed, the fault says how many items
-// were run, and the second call applies none of them again.
-fn serves(alloc: Global, body: &str, status: u16, applied: u64) -> Option<bool> {
+// The same, by a second call if the first was refused.
+fn count_again(alloc: Global, index: &Index) -> Option<u64> {
+    count(alloc, index).or_else(|| count(alloc, index))
+}
+
+// The status with which a body is served, by a second call if an allocation failed and the fault said
+// how many items were run.
+fn status_of(alloc: Global, index: &mut Index, script: &mut Script, body: &str) -> Option<u16> {
+    match index.serve_body(alloc, body.as_bytes(), script) {
+        Ok(answer) => Some(answer.0),
+        Err(fault) if count(alloc, index) == Some(fault.ran) => {
+            let answer = index.serve_body(alloc, body.as_bytes(), script).ok()?;
+            Some(answer.0)
+        }
+        Err(_) => None,
+    }
+}
+
+// Whether a body is served with this status, and the index then has this many writes: a second call
+// applies none of them again.
+fn serves(alloc: Global, body: &str, status: u16, applied: u64) -> bool {
     let mut index = Index::new(alloc);
     let mut script = Script::new(alloc);
-    let good = match index.serve_body(alloc, body.as_bytes(), &mut script) {
-        Ok(answer) => answer.0 == status,
-        Err(fault) => {
-            count(alloc, &index)? == fault.ran
-                && index
-                    .serve_body(alloc, body.as_bytes(), &mut script)
-                    .is_ok_and(|answer| answer.0 == status)
-        }
-    };
-    Some(good && count(alloc, &index).or_else(|| count(alloc, &index))? == applied)
+    let told = status_of(alloc, &mut index, &mut script, body);
+    told == Some(status) && count_again(alloc, &index) == Some(applied)
 }
 
 #[test]
 fn refused_bodies(rt: HostRuntime) {
     for (body, status, applied) in [(BODY, 200, 3), ("{\"index\":7}\n", 400, 0)] {
-        assert!(rt; serves(rt.alloc(), body, status, applied) == Some(true));
+        assert!(rt; serves(rt.alloc(), body, status, applied));
+    }
+}
+
+// Adds the refusals of all items but the first.
+fn notes_others(script: &mut Script) -> bool {
+    let mut good = true;
+    for place in 2..40u64 {
+        good = notes(script, place) && good;
+    }
+    good
+}
+
+// How many items of the body are run, which are all three unless an allocation failed.
+fn ran_of(alloc: Global, index: &mut Index, script: &mut Script) -> u64 {
+    match index.serve_body(alloc, BODY.as_bytes(), script) {
+        Ok(_) => 3,
+        Err(fault) => fault.ran,
     }
 }
 
 // Whether the items that a script refuses are not applied, and the others are.
-fn serves_others(alloc: Global) -> Option<bool> {
+fn serves_others(alloc: Global) -> bool {
     let mut index = Index::new(alloc);
     let mut script = Script::new(alloc);
-    let mut good = true;
-    for place in 2..40u64 {
-        good = notes(&mut script, place) && good;
-    }
-    let fault = index.serve_body(alloc, BODY.as_bytes(), &mut script).err();
-    let ran = fault.map_or(3, |fault| fault.ran);
-    Some(good && count(alloc, &index).or_else(|| count(alloc, &index))? == ran.min(1))
+    let good = notes_others(&mut script);
+    let ran = ran_of(alloc, &mut index, &mut script);
+    good && count_again(alloc, &index) == Some(ran.min(1))
 }
 
 #[test]
 fn refused_scripts(rt: HostRuntime) {
-    assert!(rt; serves_others(rt.alloc()) == Some(true));
+    assert!(rt; serves_others(rt.alloc()));
 }

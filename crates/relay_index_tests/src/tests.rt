@@ -1,54 +1,47 @@
 //! Runs of writes, look-ups, and bodies of bulk requests.
 ghost use Rattle.relay_index.specs.Choices.{MayChoose};
 
-use relay_action::{Action, ActionFault, DocKey, Write};
+use relay_action::{Action, DocKey, Write};
 use relay_index::{Choice, Index, Script, may_refuse};
 use relay_results::{
     DoneResult, ErrorDetail, ItemDone, Outcome, VersionConflict, read_reply, write_reply,
 };
-use std::alloc::{AllocError, Global};
-use std::test::Fail;
+use std::process::Abort;
 
 /// The id, the version and the source of a write to a document of index `b`; a source of `None` is
 /// a delete.
 type Row<'r> = (&'r str, u64, Option<&'r str>);
 
-fn write_of(alloc: Global, row: Row) -> Result<Write, ActionFault> {
+fn write_of(rt: &(impl Abort + AllocGlobal), row: Row) -> Write {
     let (id, version, source) = row;
     let action = match source {
-        Some(text) => Action::index(alloc, text)?,
+        Some(text) => Action::index(rt.alloc(), text).expect(rt, "an action"),
         None => Action::delete(),
     };
-    Ok(Write {
-        key: DocKey::new(alloc, "b", id)?,
+    Write {
+        key: DocKey::new(rt.alloc(), "b", id).expect(rt, "a key"),
         version,
         action,
-    })
+    }
 }
 
 /// The status, the result, the stored version and the sequence number after running a write.
 type Said = (u16, DoneResult, u64, u64);
 
-// The result of running a write, if it names its document.
-fn said_of(index: &mut Index, write: &Write, choice: Choice) -> Option<Said>
+// The result of running a write, which names its document.
+fn said_of(rt: &impl Abort, index: &mut Index, write: &Write, choice: Choice) -> Said
     requires { MayChoose choice }
 {
-    match index.run(write, choice) {
-        Ok(done) if done.key == write.key => {
-            Some((done.status, done.result, done.version, done.seq))
-        }
-        _ => None,
-    }
+    let done = index.run(write, choice).expect(rt, "memory");
+    assert!(rt; done.key == write.key);
+    (done.status, done.result, done.version, done.seq)
 }
 
 // The result of running the write of a row.
-fn run(alloc: Global, index: &mut Index, row: Row, choice: Choice) -> Option<Said>
+fn run(rt: &(impl Abort + AllocGlobal), index: &mut Index, row: Row, choice: Choice) -> Said
     requires { MayChoose choice }
 {
-    match write_of(alloc, row) {
-        Ok(write) => said_of(index, &write, choice),
-        Err(_) => None,
-    }
+    said_of(rt, index, &write_of(rt, row), choice)
 }
 
 const RUNS: &[(Row<'static>, Said)] = &[
@@ -68,7 +61,7 @@ const RUNS: &[(Row<'static>, Said)] = &[
 fn writes_that_run(rt: HostRuntime) {
     let mut index = Index::new(rt.alloc());
     for (row, said) in RUNS {
-        assert!(rt; run(rt.alloc(), &mut index, *row, Choice::Run) == Some(*said));
+        assert!(rt; run(&rt, &mut index, *row, Choice::Run) == *said);
     }
 }
 
@@ -85,7 +78,7 @@ fn statuses_of_refusals(rt: HostRuntime) {
         (600, false),
     ];
     for (status, wanted) in rows {
-        assert_eq!(rt; may_refuse(status), wanted);
+        assert!(rt; may_refuse(status) == wanted);
     }
 }
 
@@ -94,35 +87,24 @@ fn statuses_of_refusals(rt: HostRuntime) {
 fn writes_that_are_refused(rt: HostRuntime) {
     let mut index = Index::new(rt.alloc());
     let row = ("2", 7, Some("{}"));
-    let refused = run(rt.alloc(), &mut index, row, Choice::Refuse(429));
-    let created = run(rt.alloc(), &mut index, row, Choice::Run);
-    assert!(rt;
-        refused == Some((429, DoneResult::Refused, 0, 0))
-            && created == Some((201, DoneResult::Created, 7, 0))
-    );
-}
-
-// Whether an index runs the writes of these rows with these results.
-fn runs_all(alloc: Global, index: &mut Index, rows: &[Row]) -> bool {
-    let mut good = true;
-    for row in rows {
-        good = good && run(alloc, index, *row, Choice::Run).is_some();
-    }
-    good
+    let refused = run(&rt, &mut index, row, Choice::Refuse(429));
+    assert!(rt; refused == (429, DoneResult::Refused, 0, 0));
+    let created = run(&rt, &mut index, row, Choice::Run);
+    assert!(rt; created == (201, DoneResult::Created, 7, 0));
 }
 
 // The version and the source of a document, and how many writes were applied to it.
 fn look_up<'i>(
-    alloc: Global,
+    rt: &(impl Abort + AllocGlobal),
     index: &'i Index,
     id: &str,
-) -> Result<(Option<u64>, Option<&'i str>, usize), ActionFault> {
-    let key = DocKey::new(alloc, "b", id)?;
-    Ok((
+) -> (Option<u64>, Option<&'i str>, usize) {
+    let key = DocKey::new(rt.alloc(), "b", id).expect(rt, "a key");
+    (
         index.version(&key),
         index.source(&key),
         index.applied(&key).len(),
-    ))
+    )
 }
 
 const WRITES: &[Row<'static>] = &[
@@ -144,40 +126,41 @@ const LOOK_UPS: &[(&str, (Option<u64>, Option<&str>, usize))] = &[
 #[test]
 fn look_ups(rt: HostRuntime) {
     let mut index = Index::new(rt.alloc());
-    let before = index.highest();
-    let ran = runs_all(rt.alloc(), &mut index, WRITES);
-    assert!(rt; ran && before.is_none() && index.highest() == Some(9));
+    assert!(rt; index.highest().is_none());
+    for row in WRITES {
+        run(&rt, &mut index, *row, Choice::Run);
+    }
+    assert!(rt; index.highest() == Some(9));
     for (id, wanted) in LOOK_UPS {
-        assert!(rt; look_up(rt.alloc(), &index, *id) == Ok(*wanted));
+        assert!(rt; look_up(&rt, &index, *id) == *wanted);
     }
 }
 
-// Whether an index runs the delete of a document twice with the same version.
-fn deletes_twice(alloc: Global, index: &mut Index, name: &str, id: &str) -> bool {
-    let Ok(key) = DocKey::new(alloc, name, id) else {
-        return false;
-    };
+// Runs the delete of a document twice with the same version.
+fn delete_twice(rt: &(impl Abort + AllocGlobal), index: &mut Index, name: &str, id: &str) {
     let write = Write {
-        key,
+        key: DocKey::new(rt.alloc(), name, id).expect(rt, "a key"),
         version: 1,
         action: Action::delete(),
     };
-    said_of(index, &write, Choice::Run).is_some() && said_of(index, &write, Choice::Run).is_some()
+    said_of(rt, index, &write, Choice::Run);
+    said_of(rt, index, &write, Choice::Run);
 }
 
-// Whether documents have these index names and ids.
-fn are(keys: &[DocKey], wanted: &[(&str, &str)]) -> bool {
-    let mut good = keys.len() == wanted.len();
-    for (key, (name, id)) in keys.iter().zip(wanted) {
-        good = good && key.index() == *name && key.id() == *id;
-    }
-    good
+// Whether a document has this index name and this id.
+fn is(key: &DocKey, wanted: &(&str, &str)) -> bool {
+    let (name, id) = *wanted;
+    key.index() == name && key.id() == id
 }
 
 // Whether the documents of an index are these, in this order.
-fn has_keys(alloc: Global, index: &Index, wanted: &[(&str, &str)]) -> Result<bool, AllocError> {
-    let keys = index.keys(alloc)?;
-    Ok(are(&keys, wanted))
+fn has_keys(rt: &(impl Abort + AllocGlobal), index: &Index, wanted: &[(&str, &str)]) -> bool {
+    let keys = index.keys(rt.alloc()).expect(rt, "memory");
+    let mut good = keys.len() == wanted.len();
+    for (key, row) in keys.iter().zip(wanted) {
+        good = good && is(key, row);
+    }
+    good
 }
 
 const DELETES: &[(&str, &str)] = &[
@@ -202,37 +185,22 @@ const IN_ORDER: &[(&str, &str)] = &[
 #[test]
 fn documents_in_order(rt: HostRuntime) {
     let mut index = Index::new(rt.alloc());
-    assert!(rt; has_keys(rt.alloc(), &index, &[]) == Ok(true));
+    assert!(rt; has_keys(&rt, &index, &[]));
     for (name, id) in DELETES {
-        assert!(rt; deletes_twice(rt.alloc(), &mut index, *name, *id));
+        delete_twice(&rt, &mut index, *name, *id);
     }
-    assert!(rt; has_keys(rt.alloc(), &index, IN_ORDER) == Ok(true));
+    assert!(rt; has_keys(&rt, &index, IN_ORDER));
 }
 
 // The item of a write of the document `2`.
 fn item_of(
-    alloc: Global,
+    rt: &(impl Abort + AllocGlobal),
     index: &mut Index,
     version: u64,
     source: Option<&str>,
-) -> Result<ItemDone, Fail> {
-    let write = write_of(alloc, ("2", version, source))?;
-    Ok(index.run(&write, Choice::Run)?)
-}
-
-// The items of a write, of a delete with its version, and of a delete with the next one.
-fn items_of(alloc: Global, index: &mut Index) -> Result<Vec<ItemDone>, Fail> {
-    let mut items = Vec::new(alloc);
-    items.push(item_of(alloc, index, 5, Some("{}"))?)?;
-    items.push(item_of(alloc, index, 5, None)?)?;
-    items.push(item_of(alloc, index, 6, None)?)?;
-    Ok(items)
-}
-
-// What is read from the reply to these items.
-fn read_of_reply(alloc: Global, items: &[ItemDone]) -> Result<Vec<Outcome>, Fail> {
-    let text = write_reply(alloc, 0, items)?;
-    Ok(read_reply(alloc, text.as_str().as_bytes())?)
+) -> ItemDone {
+    let write = write_of(rt, ("2", version, source));
+    index.run(&write, Choice::Run).expect(rt, "memory")
 }
 
 // What an outcome says of its error.
@@ -241,88 +209,95 @@ fn detail_of(outcome: &Outcome) -> Option<&ErrorDetail> {
 }
 
 // Whether what was read is the outcome of an item.
-fn is_outcome(alloc: Global, item: &ItemDone, read: &Outcome) -> Result<bool, AllocError> {
-    let told = item.outcome(alloc)?;
+fn is_outcome(rt: &(impl Abort + AllocGlobal), item: &ItemDone, read: &Outcome) -> bool {
+    let told = item.outcome(rt.alloc()).expect(rt, "memory");
     let named = read.kind == told.kind && read.id == told.id;
-    Ok(named && read.status == told.status && detail_of(read) == detail_of(&told))
+    named && read.status == told.status && detail_of(read) == detail_of(&told)
 }
 
 // Whether what was read is the outcome of each item.
-fn are_outcomes(alloc: Global, items: &[ItemDone], read: &[Outcome]) -> Result<bool, AllocError> {
+fn are_outcomes(rt: &(impl Abort + AllocGlobal), items: &[ItemDone], read: &[Outcome]) -> bool {
     let mut good = items.len() == read.len();
     for (item, outcome) in items.iter().zip(read) {
-        good = good && is_outcome(alloc, item, outcome)?;
+        good = good && is_outcome(rt, item, outcome);
     }
-    Ok(good)
+    good
 }
 
-// Whether what is read from the reply to items is the outcome of each.
-fn reads_outcomes(alloc: Global, index: &mut Index) -> Result<bool, Fail> {
-    let items = items_of(alloc, index)?;
-    let read = read_of_reply(alloc, &items)?;
-    Ok(items.len() == 3 && are_outcomes(alloc, &items, &read)?)
+// Whether what is read from the reply to three items of an index is the outcome of each: a write, a
+// delete with its version, and a delete with the next one.
+fn reads_outcomes(rt: &(impl Abort + AllocGlobal), index: &mut Index) -> bool {
+    let items = [
+        item_of(rt, index, 5, Some("{}")),
+        item_of(rt, index, 5, None),
+        item_of(rt, index, 6, None),
+    ];
+    let text = write_reply(rt.alloc(), 0, &items).expect(rt, "memory");
+    let read = read_reply(rt.alloc(), text.as_bytes()).expect(rt, "a reply");
+    are_outcomes(rt, &items, &read)
 }
 
 #[test]
-fn outcomes(rt: HostRuntime) -> Result<(), Fail> {
-    assert!(rt; reads_outcomes(rt.alloc(), &mut Index::new(rt.alloc()))?);
+fn outcomes(rt: HostRuntime) {
+    assert!(rt; reads_outcomes(&rt, &mut Index::new(rt.alloc())));
     let mut stating = Index::new(rt.alloc());
     stating.state_versions();
-    assert!(rt; reads_outcomes(rt.alloc(), &mut stating)?);
-    Ok(())
+    assert!(rt; reads_outcomes(&rt, &mut stating));
 }
 
 // The versions that the index states for a delete of the document `2` with this version, if it were
 // run, if it were refused, and then when it is run.
 fn states(
-    alloc: Global,
+    rt: &(impl Abort + AllocGlobal),
     index: &mut Index,
     version: u64,
-) -> Result<[Option<VersionConflict>; 3], Fail> {
-    let write = write_of(alloc, ("2", version, None))?;
-    let before = index.preview(&write, Choice::Run)?.conflict;
-    let refused = index.preview(&write, Choice::Refuse(429))?.conflict;
-    let after = index.run(&write, Choice::Run)?.conflict;
-    Ok([before, refused, after])
+) -> [Option<VersionConflict>; 3] {
+    let write = write_of(rt, ("2", version, None));
+    let before = index.preview(&write, Choice::Run).expect(rt, "memory");
+    let refused = index
+        .preview(&write, Choice::Refuse(429))
+        .expect(rt, "memory");
+    let after = index.run(&write, Choice::Run).expect(rt, "memory");
+    [before.conflict, refused.conflict, after.conflict]
 }
 
 // An index, after a write with version 5, states the versions of a conflict if it is told to, and
 // only then.
 #[test]
-fn stated_versions(rt: HostRuntime) -> Result<(), Fail> {
+fn stated_versions(rt: HostRuntime) {
     let mut index = Index::new(rt.alloc());
-    let _ = item_of(rt.alloc(), &mut index, 5, Some("{}"))?;
-    assert!(rt; states(rt.alloc(), &mut index, 3)? == [None, None, None]);
+    item_of(&rt, &mut index, 5, Some("{}"));
+    assert!(rt; states(&rt, &mut index, 3) == [None, None, None]);
     index.state_versions();
     let versions = Some(VersionConflict {
         stored: 5,
         provided: 3,
     });
-    assert!(rt; states(rt.alloc(), &mut index, 3)? == [versions, None, versions]);
-    assert!(rt; states(rt.alloc(), &mut index, 6)? == [None, None, None]);
-    Ok(())
+    assert!(rt; states(&rt, &mut index, 3) == [versions, None, versions]);
+    assert!(rt; states(&rt, &mut index, 6) == [None, None, None]);
 }
 
-// Whether an index under a script answers a body with this status and this text.
+/// A body, and the status and the text of its answer.
+type Served<'r> = (&'r str, u16, &'r str);
+
+// Whether an index under a script gives the answer of a row to its body.
 fn serves(
-    alloc: Global,
+    rt: &(impl Abort + AllocGlobal),
     index: &mut Index,
     script: &mut Script,
-    body: &str,
-    status: u16,
-    text: &str,
+    row: &Served,
 ) -> bool {
-    match index.serve_body(alloc, body.as_bytes(), script) {
-        Ok(answer) => answer.0 == status && answer.1.as_str() == text,
-        Err(_) => false,
-    }
+    let (body, status, text) = *row;
+    let answer = index.serve_body(rt.alloc(), body.as_bytes(), script);
+    let (told, written) = answer.expect(rt, "memory");
+    told == status && written.as_str() == text
 }
 
 // Whether a fresh index answers a body with this text, under a script that refuses nothing.
-fn serves_first(alloc: Global, body: &str, text: &str) -> bool {
-    let mut index = Index::new(alloc);
-    let mut script = Script::new(alloc);
-    serves(alloc, &mut index, &mut script, body, 200, text)
+fn serves_first(rt: &(impl Abort + AllocGlobal), body: &str, text: &str) -> bool {
+    let mut index = Index::new(rt.alloc());
+    let mut script = Script::new(rt.alloc());
+    serves(rt, &mut index, &mut script, &(body, 200, text))
 }
 
 const BODIES: &[(&str, &str)] = &[
@@ -347,26 +322,26 @@ const BODIES: &[(&str, &str)] = &[
 #[test]
 fn bodies(rt: HostRuntime) {
     for (body, text) in BODIES {
-        assert!(rt; serves_first(rt.alloc(), *body, *text));
+        assert!(rt; serves_first(&rt, *body, *text));
     }
 }
 
 // Whether a fresh index gives these answers to these bodies, one after another, under a script; and
 // the highest version afterwards.
 fn serves_all(
-    alloc: Global,
+    rt: &(impl Abort + AllocGlobal),
     script: &mut Script,
-    rows: &[(&str, u16, &str)],
+    rows: &[Served],
 ) -> (bool, Option<u64>) {
-    let mut index = Index::new(alloc);
+    let mut index = Index::new(rt.alloc());
     let mut good = true;
-    for (body, status, text) in rows {
-        good = good && serves(alloc, &mut index, script, *body, *status, *text);
+    for row in rows {
+        good = good && serves(rt, &mut index, script, row);
     }
     (good, index.highest())
 }
 
-const SCRIPTED: &[(&str, u16, &str)] = &[
+const SCRIPTED: &[Served<'static>] = &[
     (
         "{\"delete\":{\"_id\":\"1\",\"_index\":\"b\",\"version\":1,\"version_type\":\"external\"}}\n\
         {\"delete\":{\"_id\":\"2\",\"_index\":\"b\",\"version\":2,\"version_type\":\"external\"}}\n",
@@ -386,11 +361,12 @@ const SCRIPTED: &[(&str, u16, &str)] = &[
 #[test]
 fn scripted(rt: HostRuntime) {
     let mut script = Script::new(rt.alloc());
-    let known = script.refuse(2, 503).is_ok() && script.refuse(2, 429).is_ok();
-    assert!(rt; known && serves_all(rt.alloc(), &mut script, SCRIPTED) == (true, Some(2)));
+    script.refuse(2, 503).expect(&rt, "memory");
+    script.refuse(2, 429).expect(&rt, "memory");
+    assert!(rt; serves_all(&rt, &mut script, SCRIPTED) == (true, Some(2)));
 }
 
-const REJECTED: &[(&str, u16, &str)] = &[
+const REJECTED: &[Served<'static>] = &[
     (
         "{\"delete\":{\"_id\":\"1\",\"_index\":\"b\",\"version\":1,\"version_type\":\"external\"}}\n\
         {\"index\":{\"_id\":\"2\",\"_index\":\"b\",\"version\":2,\"version_type\":\"external\"}}\n{\"a\":1}",
@@ -413,6 +389,6 @@ const REJECTED: &[(&str, u16, &str)] = &[
 #[test]
 fn rejected_bodies(rt: HostRuntime) {
     let mut script = Script::new(rt.alloc());
-    let known = script.refuse(1, 503).is_ok();
-    assert!(rt; known && serves_all(rt.alloc(), &mut script, REJECTED) == (true, None));
+    script.refuse(1, 503).expect(&rt, "memory");
+    assert!(rt; serves_all(&rt, &mut script, REJECTED) == (true, None));
 }

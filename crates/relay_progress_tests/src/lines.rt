@@ -1,6 +1,5 @@
 //! The lines for given counts.
 use relay_progress::{Progress, Trouble, trouble_text, written_text};
-use std::alloc::Global;
 
 /// One and a half times 64 KiB, of which two thirds were read.
 pub const SOME: Progress = Progress {
@@ -63,17 +62,11 @@ const ROWS: &[(&Progress, bool, &[u8])] = &[
     ),
 ];
 
-fn is_written(alloc: Global, progress: &Progress, over: bool, wanted: &[u8]) -> bool {
-    match written_text(alloc, progress, over) {
-        Ok(text) => text.as_slice() == wanted,
-        Err(_) => false,
-    }
-}
-
 #[test]
 fn says_how_far_it_is(rt: HostRuntime) {
     for (progress, over, wanted) in ROWS {
-        assert!(rt; is_written(rt.alloc(), *progress, *over, *wanted));
+        let text = written_text(rt.alloc(), *progress, *over).expect(&rt, "memory");
+        assert!(rt; text.as_slice() == *wanted);
     }
 }
 
@@ -97,16 +90,10 @@ const TROUBLES: &[(Trouble, bool, &[u8])] = &[
     (Trouble::None, false, b"[::1]:9200: connected\n"),
 ];
 
-fn is_told(alloc: Global, trouble: Trouble, over: bool, wanted: &[u8]) -> bool {
-    match trouble_text(alloc, "[::1]:9200", trouble, over) {
-        Ok(text) => text.as_slice() == wanted,
-        Err(_) => false,
-    }
-}
-
 #[test]
 fn says_what_becomes_of_connections(rt: HostRuntime) {
     for (trouble, over, wanted) in TROUBLES {
-        assert!(rt; is_told(rt.alloc(), *trouble, *over, *wanted));
+        let text = trouble_text(rt.alloc(), "[::1]:9200", *trouble, *over).expect(&rt, "memory");
+        assert!(rt; text.as_slice() == *wanted);
     }
 }

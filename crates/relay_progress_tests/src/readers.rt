@@ -1,14 +1,13 @@
 //! Counted readers.
 use relay_action::{ByteIn, MemStream};
 use relay_progress::{CountedReader, Counts, Shared};
-use std::alloc::Global;
+use std::process::Abort;
 use std::sync::Arc;
 
 // A stream of five bytes that returns two at a time, and fails at its third call.
-fn stream(alloc: Global) -> Option<MemStream> {
-    let mut bytes = Vec::new(alloc);
-    bytes.extend_from_slice(b"abcde").ok()?;
-    MemStream::new(alloc, bytes, 0, 2, 3).ok()
+fn stream(rt: &(impl Abort + AllocGlobal)) -> MemStream {
+    let bytes = b"abcde".to_vec(rt.alloc()).expect(rt, "memory");
+    MemStream::new(rt.alloc(), bytes, 0, 2, 3).expect(rt, "memory")
 }
 
 // The results of four reads.
@@ -20,23 +19,18 @@ fn reads<S: ByteIn>(reader: &mut S) -> [Option<usize>; 4] {
     [first, second, third, reader.read(&mut buffer).ok()]
 }
 
-// The same with a counted reader.
-fn counted(alloc: Global, counts: Option<Shared>) -> Option<[Option<usize>; 4]> {
-    let mut reader = CountedReader::new(stream(alloc)?, counts);
-    Some(reads(&mut reader))
-}
-
-// The results, and how many bytes are counted.
-fn reads_and_counts(alloc: Global) -> Option<([Option<usize>; 4], u64)> {
-    let counts = Counts::shared(alloc).ok()?;
-    let found = counted(alloc, Some(Arc::try_clone(&counts).ok()?))?;
-    Some((found, counts.read()))
+// The same with a counted reader of that stream.
+fn counted(rt: &(impl Abort + AllocGlobal), counts: Option<Shared>) -> [Option<usize>; 4] {
+    reads(&mut CountedReader::new(stream(rt), counts))
 }
 
 const GIVEN: [Option<usize>; 4] = [Some(2), Some(2), None, Some(1)];
 
 #[test]
 fn bytes_that_were_read(rt: HostRuntime) {
-    assert!(rt; reads_and_counts(rt.alloc()) == Some((GIVEN, 5)));
-    assert!(rt; counted(rt.alloc(), None) == Some(GIVEN));
+    let counts = Counts::shared(rt.alloc()).expect(&rt, "memory");
+    let shared = Arc::try_clone(&counts).expect(&rt, "a handle");
+    assert!(rt; counted(&rt, Some(shared)) == GIVEN);
+    assert!(rt; counts.read() == 5);
+    assert!(rt; counted(&rt, None) == GIVEN);
 }

@@ -3,6 +3,7 @@ use crossbeam_channel::{Receiver, Sender, bounded};
 use relay_action::MemStream;
 use relay_progress::{Counts, Log, Show, Trouble, show_progress};
 use std::alloc::Global;
+use std::process::Abort;
 use std::sync::Wait;
 use std::thread;
 use std::thread::Threads;
@@ -14,62 +15,44 @@ fn lets_go<R: Clock>(rt: &R, ended: Sender<(), Global>, millis: u64) {
     drop(ended);
 }
 
-// What is written until its sender is gone.
-fn written<R: Wait + Clock>(
-    rt: &R,
-    alloc: Global,
-    show: &Show,
-    counts: &Counts,
-    ended: &Receiver<(), Global>,
-) -> Option<MemStream> {
-    let mut err = MemStream::new(alloc, Vec::new(alloc), 1_000, 1_000, 0).ok()?;
-    show_progress(rt, alloc, show, counts, ended, &mut err);
-    Some(err)
-}
-
-// What is written in this many milliseconds.
-fn shows<R>(rt: R, alloc: Global, show: &Show, trouble: Trouble, millis: u64) -> Option<MemStream>
-where
-    R: Threads + Wait + Clock + Copy + Send + 'static,
-{
-    let counts = Counts::shared(alloc).ok()?;
-    counts.set_trouble(trouble);
-    let (ended, waiting) = bounded(alloc, 1).ok()?;
-    let other = thread::spawn(&rt, move || lets_go(&rt, ended, millis)).ok()?;
-    let err = written(&rt, alloc, show, &counts, &waiting);
-    other.join(&rt);
-    err
-}
-
-// What to show: lines or none, on a terminal or not.
-fn show_of(alloc: Global, lines: bool, over: bool) -> Option<Show> {
-    Some(Show {
-        lines,
-        over,
-        address: String::from_str(alloc, "a:1").ok()?,
-        size: None,
-        log: Log::None,
-        epoch: 0,
-        lanes: 1,
-    })
-}
-
-// Whether this is written.
-fn writes<R>(rt: R, alloc: Global, row: &Row) -> Option<bool>
-where
-    R: Threads + Wait + Clock + Copy + Send + 'static,
-{
-    let show = show_of(alloc, row.lines, row.over)?;
-    let err = shows(rt, alloc, &show, row.trouble, row.millis)?;
-    Some(err.written() == row.wanted)
-}
-
+// What to show, lines or none, on a terminal or not; what is known of connections, for how many
+// milliseconds it is shown, and what is written.
 struct Row {
     lines: bool,
     over: bool,
     trouble: Trouble,
     millis: u64,
     wanted: &'static [u8],
+}
+
+fn show_of(rt: &(impl Abort + AllocGlobal), row: &Row) -> Show {
+    Show {
+        lines: row.lines,
+        over: row.over,
+        address: String::from_str(rt.alloc(), "a:1").expect(rt, "memory"),
+        size: None,
+        log: Log::None,
+        epoch: 0,
+        lanes: 1,
+    }
+}
+
+// What is written of a row.
+fn shows<R>(rt: R, row: &Row) -> MemStream
+where
+    R: Threads + Wait + Clock + Abort + AllocGlobal + Copy + Send + 'static,
+{
+    let show = show_of(&rt, row);
+    let counts = Counts::shared(rt.alloc()).expect(&rt, "memory");
+    counts.set_trouble(row.trouble);
+    let (ended, waiting) = bounded(rt.alloc(), 1).expect(&rt, "memory");
+    let millis = row.millis;
+    let other = thread::spawn(&rt, move || lets_go(&rt, ended, millis)).expect(&rt, "a thread");
+    let none = Vec::new(rt.alloc());
+    let mut err = MemStream::new(rt.alloc(), none, 1_000, 1_000, 0).expect(&rt, "memory");
+    show_progress(&rt, rt.alloc(), &show, &counts, &waiting, &mut err);
+    other.join(&rt);
+    err
 }
 
 const ROWS: &[Row] = &[
@@ -113,6 +96,7 @@ const ROWS: &[Row] = &[
 #[test]
 fn says_what_is_to_be_said(rt: HostRuntime) {
     for row in ROWS {
-        assert!(rt; writes(rt, rt.alloc(), row) == Some(true));
+        let err = shows(rt, row);
+        assert!(rt; err.written() == row.wanted);
     }
 }

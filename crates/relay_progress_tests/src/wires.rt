@@ -4,6 +4,7 @@ use relay_fixtures::index_wire::{Way, wire_of};
 use relay_lane::Loss;
 use relay_progress::{CountedWire, Counts, Shared};
 use std::alloc::Global;
+use std::process::Abort;
 use std::sync::Arc;
 
 /// What a counted wire returns for a delete.
@@ -14,9 +15,10 @@ pub fn asks_counted(alloc: Global, way: Way, counts: Option<Shared>) -> Told {
 
 // The same, and how many requests, operations, answers and ends are counted, and how many operations
 // are settled, are refused and are neither.
-fn counted(alloc: Global, way: Way) -> Option<(Told, [u64; 7])> {
-    let counts = Counts::shared(alloc).ok()?;
-    let told = asks_counted(alloc, way, Some(Arc::try_clone(&counts).ok()?));
+fn counted(rt: &(impl Abort + AllocGlobal), way: Way) -> (Told, [u64; 7]) {
+    let counts = Counts::shared(rt.alloc()).expect(rt, "memory");
+    let shared = Arc::try_clone(&counts).expect(rt, "a handle");
+    let told = asks_counted(rt.alloc(), way, Some(shared));
     let found = [
         counts.requests(),
         counts.operations(),
@@ -26,7 +28,7 @@ fn counted(alloc: Global, way: Way) -> Option<(Told, [u64; 7])> {
         counts.refused(),
         counts.repeats(),
     ];
-    Some((told, found))
+    (told, found)
 }
 
 // What a wire does, what it returns, and the counts: requests, operations, answers, ends, operations
@@ -79,10 +81,7 @@ const ROWS: &[(Way, Told, [u64; 7])] = &[
 #[test]
 fn requests_that_were_sent(rt: HostRuntime) {
     for (way, told, wanted) in ROWS {
-        assert!(rt;
-            counted(rt.alloc(), *way) == Some((*told, *wanted)),
-            "{way:?}"
-        );
+        assert!(rt; counted(&rt, *way) == (*told, *wanted), "{way:?}");
     }
 }
 

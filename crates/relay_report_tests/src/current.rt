@@ -2,7 +2,7 @@
 use relay_action::MemStream;
 use relay_ndjson::{InputFault, LineKind};
 use relay_report::{InputEnd, Kept, Named, current_names};
-use std::alloc::{AllocError, Global};
+use std::process::Abort;
 
 const FIRST: &[u8] =
     b"{\"delete\":{\"_id\":\"1\"}}\n{\"index\":{\"_id\":\"2\"}}\n{}\n\n{\"delete\":{\"_id\":\"1\"}}\n";
@@ -13,29 +13,37 @@ const SECOND: &[u8] =
 // A producer and a number.
 type Place = (u32, u64);
 
-fn names_of(alloc: Global, places: &[Place]) -> Result<Vec<Named>, AllocError> {
-    let mut names = Vec::new(alloc);
+fn names_of(rt: &(impl Abort + AllocGlobal), places: &[Place]) -> Vec<Named> {
+    let mut names = Vec::new(rt.alloc());
     for (producer, number) in places {
-        names.push(Named {
+        let name = Named {
             producer: *producer,
             number: *number,
             line: *number,
-        })?;
+        };
+        names.push(name).expect(rt, "memory");
     }
-    Ok(names)
+    names
 }
 
-// The two inputs in pieces; if `fails` is not 0, this read of the second one fails.
-fn inputs_of(alloc: Global, piece: usize, fails: u64) -> Result<Vec<MemStream>, AllocError> {
-    let mut inputs = Vec::new(alloc);
-    inputs.push(MemStream::new(alloc, FIRST.to_vec(alloc)?, 0, piece.max(1), 0)?)?;
-    inputs.push(MemStream::new(alloc, SECOND.to_vec(alloc)?, 0, piece.max(1), fails)?)?;
-    Ok(inputs)
+// A text in pieces; if `fails` is not 0, this read of it fails.
+fn stream_of(rt: &(impl Abort + AllocGlobal), text: &[u8], piece: usize, fails: u64) -> MemStream {
+    let text = text.to_vec(rt.alloc()).expect(rt, "memory");
+    MemStream::new(rt.alloc(), text, 0, piece.max(1), fails).expect(rt, "memory")
 }
 
-fn kept_of(alloc: Global, places: &[Place], piece: usize, fails: u64) -> Result<Kept, AllocError> {
-    let names = names_of(alloc, places)?;
-    current_names(alloc, &names, inputs_of(alloc, piece, fails)?, Some("b"))
+// What is current of the two inputs in pieces; if `fails` is not 0, this read of the second one
+// fails.
+fn kept_of(rt: &(impl Abort + AllocGlobal), places: &[Place], piece: usize, fails: u64) -> Kept {
+    let names = names_of(rt, places);
+    let mut inputs = Vec::new(rt.alloc());
+    inputs
+        .push(stream_of(rt, FIRST, piece, 0))
+        .expect(rt, "memory");
+    inputs
+        .push(stream_of(rt, SECOND, piece, fails))
+        .expect(rt, "memory");
+    current_names(rt.alloc(), &names, inputs, Some("b")).expect(rt, "memory")
 }
 
 // What is named, what is current, and how many are found.
@@ -71,40 +79,33 @@ const FIRST_END: InputEnd = InputEnd {
     fault: None,
 };
 
-fn is_kept(alloc: Global, row: &Row, piece: usize) -> Result<bool, AllocError> {
+fn is_kept(rt: &(impl Abort + AllocGlobal), row: &Row, piece: usize) -> bool {
     let (places, current, found) = *row;
-    let kept = kept_of(alloc, places, piece, 0)?;
-    let wanted = names_of(alloc, current)?;
-    Ok(
-        kept.names == wanted
-            && kept.found == found
-            && kept.ends.as_slice() == [FIRST_END, SECOND_END].as_slice(),
-    )
+    let kept = kept_of(rt, places, piece, 0);
+    kept.names == names_of(rt, current)
+        && kept.found == found
+        && kept.ends.as_slice() == [FIRST_END, SECOND_END].as_slice()
 }
 
 #[test]
 fn current_names_of_inputs(rt: HostRuntime) {
     for row in ROWS {
         for piece in [1usize, 7, 1000] {
-            assert!(rt; is_kept(rt.alloc(), row, piece) == Ok(true));
+            assert!(rt; is_kept(&rt, row, piece));
         }
     }
 }
 
-// How far the second input is read if this read of it fails.
-fn end_of(alloc: Global, fails: u64) -> Result<Option<InputEnd>, AllocError> {
-    let kept = kept_of(alloc, &[(0, 1)], 50, fails)?;
-    Ok(kept.ends.last().copied())
-}
-
+// If a read of the second input fails, it is read to there.
 #[test]
 fn reads_that_fail(rt: HostRuntime) {
-    let failed = Ok(Some(InputEnd {
+    let failed = InputEnd {
         count: 0,
         fault: Some(InputFault {
             line: 1,
             kind: LineKind::Read,
         }),
-    }));
-    assert!(rt; end_of(rt.alloc(), 1) == failed);
+    };
+    let kept = kept_of(&rt, &[(0, 1)], 50, 1);
+    assert!(rt; kept.ends.last() == Some(&failed));
 }

@@ -3,7 +3,7 @@ use relay_action::{DocKey, OpName, Text};
 use relay_core::Report;
 use relay_report::report_text;
 use relay_results::{Cause, LastTry, Loss};
-use std::alloc::Global;
+use std::process::Abort;
 
 // A report: its name as epoch, producer and number, its document, and the cause by name, with its
 // number and its text.
@@ -34,68 +34,73 @@ fn last_of(word: &str) -> Option<LastTry> {
     None
 }
 
+fn text_of(rt: &(impl Abort + AllocGlobal), text: &str) -> Text {
+    Text::new(rt.alloc(), text).expect(rt, "memory")
+}
+
 // The cause with a name. Explained is a refusal with a reason, Rejected one of a whole request,
-// Stated a conflict with one. `None`: no cause has the name, or allocation failed.
-fn cause_of(alloc: Global, cause: (&str, u32, &str)) -> Option<Cause> {
+// Stated a conflict with one.
+fn cause_of(rt: &(impl Abort + AllocGlobal), cause: (&str, u32, &str)) -> Cause {
     let (name, number, text) = cause;
+    let status = number.min(599) as u16;
     match name {
-        "Refused" => Some(Cause::Refused {
-            status: number.min(599) as u16,
-            kind: Text::new(alloc, text).ok()?,
+        "Refused" => Cause::Refused {
+            status,
+            kind: text_of(rt, text),
             reason: None,
-        }),
-        "Explained" => Some(Cause::Refused {
-            status: number.min(599) as u16,
-            kind: Text::new(alloc, "mapper_parsing_exception").ok()?,
-            reason: Some(Text::new(alloc, text).ok()?),
-        }),
-        "Request" => Some(Cause::Request {
-            status: number.min(599) as u16,
+        },
+        "Explained" => Cause::Refused {
+            status,
+            kind: text_of(rt, "mapper_parsing_exception"),
+            reason: Some(text_of(rt, text)),
+        },
+        "Request" => Cause::Request {
+            status,
             reason: None,
-        }),
-        "Rejected" => Some(Cause::Request {
-            status: number.min(599) as u16,
-            reason: Some(Text::new(alloc, text).ok()?),
-        }),
-        "Conflict" => Some(Cause::Conflict {
+        },
+        "Rejected" => Cause::Request {
+            status,
+            reason: Some(text_of(rt, text)),
+        },
+        "Conflict" => Cause::Conflict {
             stored: None,
             reason: None,
-        }),
-        "Stated" => Some(Cause::Conflict {
+        },
+        "Stated" => Cause::Conflict {
             stored: Some(number as u64),
-            reason: Some(Text::new(alloc, text).ok()?),
-        }),
-        "GaveUp" => Some(Cause::GaveUp {
+            reason: Some(text_of(rt, text)),
+        },
+        "GaveUp" => Cause::GaveUp {
             sends: number,
-            last: last_of(text)?,
-        }),
-        "Spent" => Some(Cause::Spent),
-        _ => None,
+            last: last_of(text).expect(rt, "what became of a last try"),
+        },
+        "Spent" => Cause::Spent,
+        _ => panic!(rt; "no cause has the name {name}"),
     }
 }
 
 // The report of a row.
-fn report_of(alloc: Global, row: &Row) -> Option<Report> {
+fn report_of(rt: &(impl Abort + AllocGlobal), row: &Row) -> Report {
     let ((epoch, producer, number), (index, id), cause) = *row;
-    Some(Report {
+    Report {
         name: OpName {
             epoch,
             producer,
             number,
         },
-        key: DocKey::new(alloc, index, id).ok()?,
-        cause: cause_of(alloc, cause)?,
-    })
+        key: DocKey::new(rt.alloc(), index, id).expect(rt, "a key"),
+        cause: cause_of(rt, cause),
+    }
 }
 
 // Whether the reports of rows are written as this text.
-fn writes(alloc: Global, rows: &[Row], text: &[u8]) -> Option<bool> {
-    let mut reports = Vec::new(alloc);
+fn writes(rt: &(impl Abort + AllocGlobal), rows: &[Row], text: &[u8]) -> bool {
+    let mut reports = Vec::new(rt.alloc());
     for row in rows {
-        reports.push(report_of(alloc, row)?).ok()?;
+        reports.push(report_of(rt, row)).expect(rt, "memory");
     }
-    let found = report_text(alloc, &reports).ok()?;
-    Some(found.as_slice() == text)
+    let found = report_text(rt.alloc(), &reports).expect(rt, "memory");
+    found.as_slice() == text
 }
 
 const ONE: &[(Row, &[u8])] = &[
@@ -200,7 +205,7 @@ const ONE: &[(Row, &[u8])] = &[
 #[test]
 fn each_cause(rt: HostRuntime) {
     for (row, text) in ONE {
-        assert!(rt; writes(rt.alloc(), &[*row], *text) == Some(true));
+        assert!(rt; writes(&rt, &[*row], *text));
     }
 }
 
@@ -214,6 +219,6 @@ const TWO_LINES: &[u8] =
 
 #[test]
 fn in_the_order_given(rt: HostRuntime) {
-    assert!(rt; writes(rt.alloc(), TWO, TWO_LINES) == Some(true));
-    assert!(rt; writes(rt.alloc(), &[], b"") == Some(true));
+    assert!(rt; writes(&rt, TWO, TWO_LINES));
+    assert!(rt; writes(&rt, &[], b""));
 }

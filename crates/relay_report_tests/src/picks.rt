@@ -2,14 +2,14 @@
 use relay_action::MemStream;
 use relay_ndjson::{InputFault, LineKind};
 use relay_report::{Named, PickFault, ReportFault, first_missing, pick, read_name, read_names};
-use std::alloc::{AllocError, Global};
+use std::process::Abort;
 
 type Name = Option<(u32, u32, u64)>;
 
-// The name in a line of a report, as epoch, producer and number. `None`: allocation failed.
-fn name_on(alloc: Global, line: &[u8]) -> Option<Name> {
-    let name = read_name(alloc, line).ok()?;
-    Some(name.map(|name| (name.epoch, name.producer, name.number)))
+// The name in a line of a report, as epoch, producer and number.
+fn name_on(rt: &(impl Abort + AllocGlobal), line: &[u8]) -> Name {
+    let name = read_name(rt.alloc(), line).expect(rt, "memory")?;
+    Some((name.epoch, name.producer, name.number))
 }
 
 const LINES: &[(&[u8], Name)] = &[
@@ -85,7 +85,7 @@ const LINES: &[(&[u8], Name)] = &[
 #[test]
 fn lines_of_a_report(rt: HostRuntime) {
     for (line, name) in LINES {
-        assert!(rt; name_on(rt.alloc(), *line) == Some(*name));
+        assert!(rt; name_on(&rt, *line) == *name);
     }
 }
 
@@ -105,27 +105,35 @@ const TWO_NAMES: &[Named] = &[
     },
 ];
 
-// The result of `read_names` for a report in pieces, if one of the reads fails (0: none) and the
-// names that it adds are the first of those two.
-fn reads(
-    alloc: Global,
+// A stream of these bytes in pieces, with room for this many more, one call of which fails (0: none).
+fn stream_of(
+    rt: &(impl Abort + AllocGlobal),
+    bytes: &[u8],
+    room: usize,
     piece: usize,
     fails: u64,
-) -> Result<Option<Result<(), ReportFault>>, AllocError> {
-    let mut report = MemStream::new(alloc, REPORT.to_vec(alloc)?, 0, piece.max(1), fails)?;
-    let mut names = Vec::new(alloc);
-    let result = read_names(alloc, &mut report, &mut names);
-    Ok(TWO_NAMES.starts_with(names.as_slice()).then_some(result))
+) -> MemStream {
+    let bytes = bytes.to_vec(rt.alloc()).expect(rt, "memory");
+    MemStream::new(rt.alloc(), bytes, room, piece.max(1), fails).expect(rt, "memory")
+}
+
+// The result of `read_names` for a report in pieces, if one of the reads fails (0: none). The names
+// that it adds are the first of those two.
+fn reads(rt: &(impl Abort + AllocGlobal), piece: usize, fails: u64) -> Result<(), ReportFault> {
+    let mut report = stream_of(rt, REPORT, 0, piece, fails);
+    let mut names = Vec::new(rt.alloc());
+    let result = read_names(rt.alloc(), &mut report, &mut names);
+    assert!(rt; TWO_NAMES.starts_with(names.as_slice()));
+    result
 }
 
 #[test]
 fn names_of_a_report(rt: HostRuntime) {
-    let bad = Ok(Some(Err(ReportFault::BadLine { line: 3 })));
     for piece in [1usize, 10, 1000] {
-        assert!(rt; reads(rt.alloc(), piece, 0) == bad);
+        assert!(rt; reads(&rt, piece, 0) == Err(ReportFault::BadLine { line: 3 }));
     }
     for fails in [1u64, 2, 3] {
-        assert!(rt; reads(rt.alloc(), 50, fails) == Ok(Some(Err(ReportFault::Read))));
+        assert!(rt; reads(&rt, 50, fails) == Err(ReportFault::Read));
     }
 }
 
@@ -141,53 +149,47 @@ const THIRD: &[u8] = b"{\"index\":{\"_id\":\"3\"}}\n{}\n";
 const LAST_TWO: &[u8] =
     b"{\"index\":{\"_id\":\"2\"}}\n{\"a\":1}\r\n{\"index\":{\"_id\":\"3\"}}\n{}\n";
 
-// The streams of one call.
-#[derive(Drop)]
-struct Streams {
-    input: MemStream,
-    writer: MemStream,
-}
-
-impl Streams {
-    // The result of `pick` for these numbers of producer 3, and a number of another one.
-    fn pick(
-        &mut self,
-        alloc: Global,
-        numbers: &[u64],
-        index: Option<&str>,
-    ) -> Result<Result<u64, PickFault>, AllocError> {
-        let mut names = Vec::new(alloc);
-        names.push(Named {
-            producer: 2,
-            number: 1,
-            line: 1,
-        })?;
-        for number in numbers {
-            names.push(Named {
-                producer: 3,
-                number: *number,
-                line: 2,
-            })?;
-        }
-        let Streams { input, writer } = self;
-        Ok(pick(alloc, &names, 3, input, index, writer))
+// The names of these numbers of producer 3, after a number of another one.
+fn names_of(rt: &(impl Abort + AllocGlobal), numbers: &[u64]) -> Vec<Named> {
+    let mut names = Vec::new(rt.alloc());
+    let other = Named {
+        producer: 2,
+        number: 1,
+        line: 1,
+    };
+    names.push(other).expect(rt, "memory");
+    for number in numbers {
+        let name = Named {
+            producer: 3,
+            number: *number,
+            line: 2,
+        };
+        names.push(name).expect(rt, "memory");
     }
+    names
 }
 
-// Streams of the input in pieces, of which one read and one write fail (0: none).
-fn streams_of(alloc: Global, piece: usize, fails: (u64, u64)) -> Result<Streams, AllocError> {
-    Ok(Streams {
-        input: MemStream::new(alloc, INPUT.to_vec(alloc)?, 0, piece.max(1), fails.0)?,
-        writer: MemStream::new(alloc, Vec::new(alloc), 1000, piece.max(1), fails.1)?,
-    })
+// The result of `pick` for these numbers with the input in pieces, and what it writes to. One read
+// and one write fail (0: none).
+fn picked(
+    rt: &(impl Abort + AllocGlobal),
+    numbers: &[u64],
+    index: Option<&str>,
+    piece: usize,
+    fails: (u64, u64),
+) -> (Result<u64, PickFault>, MemStream) {
+    let names = names_of(rt, numbers);
+    let mut input = stream_of(rt, INPUT, 0, piece, fails.0);
+    let mut writer = stream_of(rt, b"", 1000, piece, fails.1);
+    let found = pick(rt.alloc(), &names, 3, &mut input, index, &mut writer);
+    (found, writer)
 }
 
 // Whether `pick` has this result for these numbers, and writes this.
-fn picks(alloc: Global, piece: usize, row: &Row) -> Result<bool, AllocError> {
+fn picks(rt: &(impl Abort + AllocGlobal), piece: usize, row: &Row) -> bool {
     let (numbers, index, result, written) = *row;
-    let mut streams = streams_of(alloc, piece, (0, 0))?;
-    let found = streams.pick(alloc, numbers, index)?;
-    Ok(found == result && streams.writer.written() == written)
+    let (found, writer) = picked(rt, numbers, index, piece, (0, 0));
+    found == result && writer.written() == written
 }
 
 type Row = (
@@ -220,30 +222,29 @@ const ROWS: &[Row] = &[
 fn operations_of_an_input(rt: HostRuntime) {
     for row in ROWS {
         for piece in [1usize, 9, 1000] {
-            assert!(rt; picks(rt.alloc(), piece, row) == Ok(true));
+            assert!(rt; picks(&rt, piece, row));
         }
     }
 }
 
 // Whether `pick` ends with a failed call, and what it wrote is a prefix of what it would write.
-fn fails(alloc: Global, fails: (u64, u64)) -> Result<bool, AllocError> {
-    let mut streams = streams_of(alloc, 20, fails)?;
-    let found = streams.pick(alloc, &[2, 3], Some("b"))?;
+fn fails(rt: &(impl Abort + AllocGlobal), fails: (u64, u64)) -> bool {
+    let (found, writer) = picked(rt, &[2, 3], Some("b"), 20, fails);
     let kind = match found {
         Err(PickFault::Input(fault)) => fails.0 > 0 && fault.kind == LineKind::Read,
         Err(PickFault::Write) => fails.1 > 0,
         _ => false,
     };
-    Ok(kind && LAST_TWO.starts_with(streams.writer.written()))
+    kind && LAST_TWO.starts_with(writer.written())
 }
 
 #[test]
 fn each_call_fails_in_turn(rt: HostRuntime) {
     for call in [1u64, 2, 3, 4, 5] {
-        assert!(rt; fails(rt.alloc(), (call, 0)) == Ok(true));
+        assert!(rt; fails(&rt, (call, 0)));
     }
     for call in [1u64, 2, 3] {
-        assert!(rt; fails(rt.alloc(), (0, call)) == Ok(true));
+        assert!(rt; fails(&rt, (0, call)));
     }
 }
 

@@ -1,14 +1,14 @@
 //! The reason that an answer to a request as a whole gives.
 use relay_results::read_refusal;
-use std::alloc::{AllocError, Global};
+use std::process::Abort;
 
 // Whether this is the reason that is kept of a body.
-fn gives(alloc: Global, body: &[u8], wanted: Option<&str>) -> Result<bool, AllocError> {
-    Ok(match (read_refusal(alloc, body)?, wanted) {
+fn gives(rt: &(impl Abort + AllocGlobal), body: &[u8], wanted: Option<&str>) -> bool {
+    match (read_refusal(rt.alloc(), body).expect(rt, "memory"), wanted) {
         (Some(reason), Some(wanted)) => reason.as_str() == wanted,
         (None, None) => true,
         _ => false,
-    })
+    }
 }
 
 // Bodies and their reasons. The first four are what OpenSearch answers without credentials, without
@@ -55,28 +55,32 @@ const BODIES: &[(&[u8], Option<&str>)] = &[
 #[test]
 fn bodies(rt: HostRuntime) {
     for (body, reason) in BODIES {
-        assert!(rt; gives(rt.alloc(), *body, *reason) == Ok(true));
+        assert!(rt; gives(&rt, *body, *reason));
     }
 }
 
 // Whether of a reason of this many letters and then an end, those and this much of the end are kept.
-fn keeps(alloc: Global, letters: usize, end: &str, kept_end: &str) -> Result<bool, AllocError> {
-    let mut text = String::new(alloc);
-    for _ in 0..letters {
-        text.push_str("a")?;
-    }
-    let mut kept = text.clone()?;
-    kept.push_str(kept_end)?;
-    let body = format!(in alloc; "{{\"error\":{{\"reason\":\"{text}{end}\"}}}}")?;
-    gives(alloc, body.as_bytes(), Some(kept.as_str()))
+fn keeps(rt: &(impl Abort + AllocGlobal), letters: usize, end: &str, kept_end: &str) -> bool {
+    let text = "a".repeat(rt.alloc(), letters).expect(rt, "memory");
+    let body = format!(in rt.alloc(); "{{\"error\":{{\"reason\":\"{text}{end}\"}}}}").expect(
+        rt, "memory",
+    );
+    let kept = format!(in rt.alloc(); "{text}{kept_end}").expect(rt, "memory");
+    gives(rt, body.as_bytes(), Some(kept.as_str()))
 }
+
+// How many letters, an end, and what is kept of it.
+const LONG: &[(usize, &str, &str)] = &[
+    (511, "b", "b"),
+    (512, "b", ""),
+    (511, "\u{e4}", ""),
+    (510, "\u{e4}b", "\u{e4}"),
+];
 
 // At most 512 bytes are kept, and no character is cut.
 #[test]
 fn kept_to_the_limit(rt: HostRuntime) {
-    let alloc = rt.alloc();
-    assert!(rt; keeps(alloc, 511, "b", "b") == Ok(true));
-    assert!(rt; keeps(alloc, 512, "b", "") == Ok(true));
-    assert!(rt; keeps(alloc, 511, "\u{e4}", "") == Ok(true));
-    assert!(rt; keeps(alloc, 510, "\u{e4}b", "\u{e4}") == Ok(true));
+    for (letters, end, kept_end) in LONG {
+        assert!(rt; keeps(&rt, *letters, *end, *kept_end));
+    }
 }

@@ -1,24 +1,6 @@
 //! What an outcome keeps of an error's reason, and the stored version that it states.
-use relay_results::{ErrorDetail, ReplyFault, number_of, read_reply};
-use std::alloc::{AllocError, Global};
-
-// The reply to an index action whose error has this reason, given as JSON.
-fn reply_of(alloc: Global, reason: &str) -> Result<String, AllocError> {
-    format!(in alloc;
-        "{{\"errors\":true,\"items\":[{{\"index\":{{\"_id\":\"1\",\"status\":409,\"error\":{{\"type\":\"t\",\"reason\":{reason}}}}}}}]}}"
-    )
-}
-
-// The error of the only entry of a reply.
-fn error_of(alloc: Global, text: &str) -> Result<Option<ErrorDetail>, ReplyFault> {
-    let mut outcomes = read_reply(alloc, text.as_bytes())?;
-    match outcomes.pop() {
-        Some(outcome) if outcomes.is_empty() => {
-            Ok(outcome.error.map(|error| error.into_detail()))
-        }
-        _ => Err(ReplyFault::NoItems),
-    }
-}
+use relay_results::{ErrorDetail, number_of, read_reply};
+use std::process::Abort;
 
 fn is_detail(error: &ErrorDetail, stored: Option<u64>, kept: Option<&str>) -> bool {
     let same = match (&error.reason, kept) {
@@ -29,17 +11,21 @@ fn is_detail(error: &ErrorDetail, stored: Option<u64>, kept: Option<&str>) -> bo
     same && error.kind.as_str() == "t" && error.stored == stored
 }
 
-// Whether the error of a reply with this reason has its type, states this version and keeps this of
-// the reason.
+// Whether the only entry of a reply with this reason, given as JSON, has an error of its type that
+// states this version and keeps this of the reason.
 fn says(
-    alloc: Global,
+    rt: &(impl Abort + AllocGlobal),
     reason: &str,
     stored: Option<u64>,
     kept: Option<&str>,
-) -> Result<bool, ReplyFault> {
-    let text = reply_of(alloc, reason).map_err(|_| ReplyFault::Memory)?;
-    let error = error_of(alloc, text.as_str())?;
-    Ok(error.is_some_and(|error| is_detail(&error, stored, kept)))
+) -> bool {
+    let text = format!(in rt.alloc();
+        "{{\"errors\":true,\"items\":[{{\"index\":{{\"_id\":\"1\",\"status\":409,\"error\":{{\"type\":\"t\",\"reason\":{reason}}}}}}}]}}"
+    ).expect(rt, "memory");
+    let mut outcomes = read_reply(rt.alloc(), text.as_bytes()).expect(rt, "a reply");
+    let outcome = outcomes.pop().expect(rt, "an entry");
+    let error = outcome.error.expect(rt, "an error").into_detail();
+    outcomes.is_empty() && is_detail(&error, stored, kept)
 }
 
 // A reason as JSON, the stored version that it states, and the reason as it is kept.
@@ -156,47 +142,37 @@ const VALUES: &[Row] = &[
 #[test]
 fn reasons_of_nodes(rt: HostRuntime) {
     for (reason, stored, kept) in OF_NODES {
-        assert!(rt; says(rt.alloc(), *reason, *stored, *kept) == Ok(true));
+        assert!(rt; says(&rt, *reason, *stored, *kept));
     }
 }
 
 #[test]
 fn marks(rt: HostRuntime) {
     for (reason, stored, kept) in MARKS {
-        assert!(rt; says(rt.alloc(), *reason, *stored, *kept) == Ok(true));
+        assert!(rt; says(&rt, *reason, *stored, *kept));
     }
 }
 
 #[test]
 fn values(rt: HostRuntime) {
     for (reason, stored, kept) in VALUES {
-        assert!(rt; says(rt.alloc(), *reason, *stored, *kept) == Ok(true));
+        assert!(rt; says(&rt, *reason, *stored, *kept));
     }
-}
-
-// A text of this many letters, and then another text.
-fn long(alloc: Global, count: usize, end: &str) -> Result<String, ReplyFault> {
-    let mut text = String::new(alloc);
-    for _ in 0..count {
-        text.push('a').map_err(|_| ReplyFault::Memory)?;
-    }
-    text.push_str(end).map_err(|_| ReplyFault::Memory)?;
-    Ok(text)
 }
 
 // Whether of a reason of this many letters and then an end, those and this much of the end are
 // kept, and whether it states this version.
 fn keeps(
-    alloc: Global,
+    rt: &(impl Abort + AllocGlobal),
     count: usize,
     end: &str,
     kept: &str,
     stored: Option<u64>,
-) -> Result<bool, ReplyFault> {
-    let text = long(alloc, count, end)?;
-    let kept = long(alloc, count, kept)?;
-    let reason = format!(in alloc; "\"{text}\"").map_err(|_| ReplyFault::Memory)?;
-    says(alloc, reason.as_str(), stored, Some(kept.as_str()))
+) -> bool {
+    let text = "a".repeat(rt.alloc(), count).expect(rt, "memory");
+    let reason = format!(in rt.alloc(); "\"{text}{end}\"").expect(rt, "memory");
+    let kept = format!(in rt.alloc(); "{text}{kept}").expect(rt, "memory");
+    says(rt, reason.as_str(), stored, Some(kept.as_str()))
 }
 
 // Of a long reason at most 512 bytes are kept, and no character is cut; the stored version is that
@@ -216,7 +192,7 @@ const LONG: &[(usize, &str, &str, Option<u64>)] = &[
 #[test]
 fn long_reasons(rt: HostRuntime) {
     for (count, end, kept, stored) in LONG {
-        assert!(rt; keeps(rt.alloc(), *count, *end, *kept, *stored) == Ok(true));
+        assert!(rt; keeps(&rt, *count, *end, *kept, *stored));
     }
 }
 

@@ -5,40 +5,29 @@ use relay_results::{
     verdict, write_reply,
 };
 use std::alloc::{AllocError, Global};
-use std::test::Fail;
+use std::process::Abort;
 
 // A write of the document with this id.
-fn write_of(alloc: Global, id: &str, action: Action) -> Result<Write, Fail> {
-    Ok(Write {
-        key: DocKey::new(alloc, "b", id)?,
+fn write_of(rt: &(impl Abort + AllocGlobal), id: &str, action: Action) -> Write {
+    Write {
+        key: DocKey::new(rt.alloc(), "b", id).expect(rt, "a key"),
         version: 1,
         action,
-    })
-}
-
-// The request of the worked replies: one index write of id `1`.
-fn one_index(alloc: Global) -> Result<Vec<Write>, Fail> {
-    let mut writes = Vec::new(alloc);
-    writes.push(write_of(alloc, "1", Action::index(alloc, "{}")?)?)?;
-    Ok(writes)
-}
-
-// Nested arrays, this many, between a front and a back.
-fn nested(alloc: Global, front: &str, count: usize, back: &str) -> Result<String, AllocError> {
-    let mut text = String::from_str(alloc, front)?;
-    for _ in 0..count {
-        text.push('[')?;
     }
-    for _ in 0..count {
-        text.push(']')?;
-    }
-    text.push_str(back)?;
-    Ok(text)
 }
 
-// The fault of a reply.
-fn fault_of(alloc: Global, text: &[u8]) -> Option<ReplyFault> {
-    read_reply(alloc, text).err()
+// An index write of id `1`.
+fn index_write(rt: &(impl Abort + AllocGlobal)) -> Write {
+    write_of(
+        rt,
+        "1",
+        Action::index(rt.alloc(), "{}").expect(rt, "an action"),
+    )
+}
+
+// Whether a reply has this fault.
+fn has_fault(alloc: Global, text: &[u8], fault: ReplyFault) -> bool {
+    read_reply(alloc, text).err() == Some(fault)
 }
 
 // Whether an entry has an error of this type.
@@ -64,21 +53,14 @@ fn is_entry(
         && has_error(outcome, error)
 }
 
-// Whether a reply has one entry, with this status and error.
-fn says_one(
-    alloc: Global,
-    text: &str,
-    status: u16,
-    error: Option<&str>,
-) -> Result<bool, ReplyFault> {
-    let outcomes = read_reply(alloc, text.as_bytes())?;
-    Ok(outcomes.len() == 1 && outcomes[0].status == status && has_error(&outcomes[0], error))
+// The entries of a reply.
+fn entries_of(rt: &(impl Abort + AllocGlobal), text: &str) -> Vec<Outcome> {
+    read_reply(rt.alloc(), text.as_bytes()).expect(rt, "a reply")
 }
 
 // Whether a reply matches a request.
-fn fits(alloc: Global, text: &str, request: &[Write]) -> Result<bool, ReplyFault> {
-    let outcomes = read_reply(alloc, text.as_bytes())?;
-    Ok(matches(outcomes.as_slice(), request))
+fn fits(rt: &(impl Abort + AllocGlobal), text: &str, request: &[Write]) -> bool {
+    matches(&entries_of(rt, text), request)
 }
 
 const FAULTS: &[(&[u8], ReplyFault)] = &[
@@ -144,27 +126,41 @@ const FAULTS: &[(&[u8], ReplyFault)] = &[
 #[test]
 fn faults(rt: HostRuntime) {
     for (text, fault) in FAULTS {
-        assert!(rt; fault_of(rt.alloc(), *text) == Some(*fault));
+        assert!(rt; has_fault(rt.alloc(), *text, *fault));
     }
+}
+
+// A front, how many nested arrays follow it, a back, and the fault of that reply.
+const DEPTHS: &[(&str, usize, &str, Option<ReplyFault>)] = &[
+    ("{\"items\":[],\"x\":", 126, "}", None),
+    ("{\"items\":[],\"x\":", 127, "}", Some(ReplyFault::NotJson)),
+    ("{\"items\":", 126, "}", Some(ReplyFault::BadItem(0))),
+    ("{\"items\":", 127, "}", Some(ReplyFault::NotJson)),
+    ("", 127, "", Some(ReplyFault::NoItems)),
+    ("", 128, "", Some(ReplyFault::NotJson)),
+];
+
+// The fault of a reply of nested arrays, this many, between a front and a back.
+fn fault_of_nested(
+    rt: &(impl Abort + AllocGlobal),
+    front: &str,
+    count: usize,
+    back: &str,
+) -> Option<ReplyFault> {
+    let open = "[".repeat(rt.alloc(), count).expect(rt, "memory");
+    let close = "]".repeat(rt.alloc(), count).expect(rt, "memory");
+    let text = [front, open.as_str(), close.as_str(), back]
+        .concat(rt.alloc())
+        .expect(rt, "memory");
+    read_reply(rt.alloc(), text.as_bytes()).err()
 }
 
 // JSON is nested at most 127 deep, even in a member that is not looked at.
 #[test]
-fn depth(rt: HostRuntime) -> Result<(), Fail> {
-    let alloc = rt.alloc();
-    let rows = [
-        ("{\"items\":[],\"x\":", 126usize, "}", None),
-        ("{\"items\":[],\"x\":", 127, "}", Some(ReplyFault::NotJson)),
-        ("{\"items\":", 126, "}", Some(ReplyFault::BadItem(0))),
-        ("{\"items\":", 127, "}", Some(ReplyFault::NotJson)),
-        ("", 127, "", Some(ReplyFault::NoItems)),
-        ("", 128, "", Some(ReplyFault::NotJson)),
-    ];
-    for (front, count, back, fault) in rows {
-        let text = nested(alloc, front, count, back)?;
-        assert_eq!(rt; fault_of(alloc, text.as_bytes()), fault);
+fn depth(rt: HostRuntime) {
+    for (front, count, back, fault) in DEPTHS {
+        assert!(rt; fault_of_nested(&rt, *front, *count, *back) == *fault);
     }
-    Ok(())
 }
 
 const ENTRIES: [(&str, u16, Option<&str>, bool); 10] = [
@@ -230,38 +226,28 @@ const ENTRIES: [(&str, u16, Option<&str>, bool); 10] = [
     ),
 ];
 
-// Whether a reply has one entry with this status and error, and whether it matches a request.
-fn says_one_that_fits(
-    alloc: Global,
-    text: &str,
-    status: u16,
-    error: Option<&str>,
-    request: &[Write],
-) -> Result<(bool, bool), ReplyFault> {
-    Ok((
-        says_one(alloc, text, status, error)?,
-        fits(alloc, text, request)?,
-    ))
+// Whether a reply has one entry, with this status and error.
+fn says_one(rt: &(impl Abort + AllocGlobal), text: &str, status: u16, error: Option<&str>) -> bool {
+    let outcomes = entries_of(rt, text);
+    outcomes.len() == 1 && outcomes[0].status == status && has_error(&outcomes[0], error)
 }
 
 // The content of a single entry, and whether the reply matches an index write of id `1`.
 #[test]
-fn entries(rt: HostRuntime) -> Result<(), Fail> {
-    let request = one_index(rt.alloc())?;
+fn entries(rt: HostRuntime) {
+    let request = [index_write(&rt)];
     for (text, status, error, fit) in &ENTRIES {
-        let said = says_one_that_fits(rt.alloc(), text, *status, *error, &request);
-        assert!(rt; said == Ok((true, *fit)));
+        assert!(rt; says_one(&rt, *text, *status, *error));
+        assert!(rt; fits(&rt, *text, &request) == *fit);
     }
-    Ok(())
 }
 
 // A reply without entries matches no request that has items.
 #[test]
-fn no_entries(rt: HostRuntime) -> Result<(), Fail> {
-    let request = one_index(rt.alloc())?;
-    assert!(rt; fits(rt.alloc(), "{\"items\":[]}", &request) == Ok(false));
-    assert!(rt; fits(rt.alloc(), "{\"items\":[]}", &[]) == Ok(true));
-    Ok(())
+fn no_entries(rt: HostRuntime) {
+    let request = [index_write(&rt)];
+    assert!(rt; !fits(&rt, "{\"items\":[]}", &request));
+    assert!(rt; fits(&rt, "{\"items\":[]}", &[]));
 }
 
 // A reply in the usual form to a delete of the document 1, in five parts.
@@ -317,21 +303,25 @@ const FORMS: [(usize, &str, Option<ReplyFault>); 16] = [
     (4, ",]}", Some(ReplyFault::NotJson)),
 ];
 
-// The reply with a part in place of the usual one.
-fn with_part(alloc: Global, place: usize, part: &str) -> Result<String, AllocError> {
-    let mut text = String::new(alloc);
-    for (at, usual) in USUAL.iter().enumerate() {
-        text.push_str(if at == place { part } else { usual })?;
+// Whether a reply with that part has this fault, or else one entry, a delete of the document 1 with
+// status 200 and no error.
+fn is_read(
+    rt: &(impl Abort + AllocGlobal),
+    place: usize,
+    part: &str,
+    fault: Option<ReplyFault>,
+) -> bool {
+    let mut parts = USUAL;
+    *parts.get_mut(place).expect(rt, "a part") = part;
+    let text = parts.concat(rt.alloc()).expect(rt, "memory");
+    match read_reply(rt.alloc(), text.as_bytes()) {
+        Ok(outcomes) => {
+            fault.is_none()
+                && outcomes.len() == 1
+                && is_entry(&outcomes[0], ActionKind::Delete, "1", 200, None)
+        }
+        Err(found) => fault == Some(found),
     }
-    Ok(text)
-}
-
-// Whether a reply with that part has one entry, a delete of the document 1 with status 200 and no
-// error.
-fn says_one_delete(alloc: Global, place: usize, part: &str) -> Result<bool, ReplyFault> {
-    let text = with_part(alloc, place, part).map_err(|_| ReplyFault::Memory)?;
-    let outcomes = read_reply(alloc, text.as_bytes())?;
-    Ok(outcomes.len() == 1 && is_entry(&outcomes[0], ActionKind::Delete, "1", 200, None))
 }
 
 // The outcome of a delete in a reply in the usual form, and the same in one in another form; a
@@ -339,39 +329,31 @@ fn says_one_delete(alloc: Global, place: usize, part: &str) -> Result<bool, Repl
 #[test]
 fn forms_of_replies(rt: HostRuntime) {
     for (place, part, fault) in &FORMS {
-        let said = says_one_delete(rt.alloc(), *place, part);
-        assert!(rt; said == fault.map_or(Ok(true), Err));
+        assert!(rt; is_read(&rt, *place, *part, *fault));
     }
 }
 
 // All entries of a reply in the usual form, in order.
 #[test]
-fn entries_in_the_usual_form(rt: HostRuntime) -> Result<(), Fail> {
-    let text = b"{\"took\":7,\"errors\":false,\"items\":[\
+fn entries_in_the_usual_form(rt: HostRuntime) {
+    let text = "{\"took\":7,\"errors\":false,\"items\":[\
         {\"index\":{\"_index\":\"b\",\"_id\":\"1\",\"_version\":5,\"result\":\"created\",\
         \"_shards\":{\"total\":2,\"successful\":1,\"failed\":0},\"_seq_no\":0,\"_primary_term\":1,\"status\":201}},\
         {\"delete\":{\"_index\":\"b\",\"_id\":\"2\",\"_version\":6,\"result\":\"not_found\",\
         \"_shards\":{\"total\":2,\"successful\":2,\"failed\":0},\"_seq_no\":10,\"_primary_term\":1,\"status\":404}},\
         {\"index\":{\"_index\":\"c\",\"_type\":\"_doc\",\"_id\":\"3\",\"_version\":12345678901,\"result\":\"updated\",\
         \"_shards\":{\"total\":2,\"successful\":1,\"failed\":1},\"_seq_no\":11,\"_primary_term\":3,\"status\":200}}]}";
-    let rows = [
-        (ActionKind::Index, "1", 201u16),
-        (ActionKind::Delete, "2", 404),
-        (ActionKind::Index, "3", 200),
-    ];
-    let outcomes = read_reply(rt.alloc(), text)?;
-    assert!(rt; outcomes.len() == rows.len());
-    for (outcome, (kind, id, status)) in outcomes.iter().zip(rows) {
-        assert!(rt; is_entry(outcome, kind, id, status, None));
-    }
-    Ok(())
+    let outcomes = entries_of(&rt, text);
+    assert!(rt; outcomes.len() == 3);
+    assert!(rt; is_entry(&outcomes[0], ActionKind::Index, "1", 201, None));
+    assert!(rt; is_entry(&outcomes[1], ActionKind::Delete, "2", 404, None));
+    assert!(rt; is_entry(&outcomes[2], ActionKind::Index, "3", 200, None));
 }
 
 // A reply with the members that an OpenSearch node sends.
 #[test]
-fn reply_of_a_node(rt: HostRuntime) -> Result<(), Fail> {
-    let alloc = rt.alloc();
-    let text = b"{\"took\":30,\"errors\":true,\"items\":[\
+fn reply_of_a_node(rt: HostRuntime) {
+    let text = "{\"took\":30,\"errors\":true,\"items\":[\
         {\"index\":{\"_index\":\"b\",\"_id\":\"1\",\"_version\":5,\"result\":\"created\",\"forced_refresh\":true,\
         \"_shards\":{\"total\":2,\"successful\":1,\"failed\":0},\"_seq_no\":0,\"_primary_term\":1,\"status\":201}},\
         {\"delete\":{\"_index\":\"b\",\"_id\":\"2\",\"status\":409,\"error\":{\"type\":\"version_conflict_engine_exception\",\
@@ -379,66 +361,50 @@ fn reply_of_a_node(rt: HostRuntime) -> Result<(), Fail> {
         \"index\":\"b\",\"shard\":\"0\",\"index_uuid\":\"q0xC1mVJTA\"}}},\
         {\"index\":{\"_index\":\"b\",\"_id\":\"3\",\"status\":400,\"error\":{\"type\":\"mapper_parsing_exception\",\
         \"reason\":\"failed to parse\",\"caused_by\":{\"type\":\"illegal_argument_exception\",\"reason\":\"no\"}}}}]}";
-    let rows = [
-        (ActionKind::Index, "1", 201u16, None),
-        (
-            ActionKind::Delete,
-            "2",
-            409,
-            Some("version_conflict_engine_exception"),
-        ),
-        (
-            ActionKind::Index,
-            "3",
-            400,
-            Some("mapper_parsing_exception"),
-        ),
-    ];
-    let outcomes = read_reply(alloc, text)?;
-    assert!(rt; outcomes.len() == rows.len());
-    for (outcome, (kind, id, status, error)) in outcomes.iter().zip(rows) {
-        assert!(rt; is_entry(outcome, kind, id, status, error));
-    }
-    Ok(())
+    let conflict = Some("version_conflict_engine_exception");
+    let mapping = Some("mapper_parsing_exception");
+    let outcomes = entries_of(&rt, text);
+    assert!(rt; outcomes.len() == 3);
+    assert!(rt; is_entry(&outcomes[0], ActionKind::Index, "1", 201, None));
+    assert!(rt; is_entry(&outcomes[1], ActionKind::Delete, "2", 409, conflict));
+    assert!(rt; is_entry(&outcomes[2], ActionKind::Index, "3", 400, mapping));
 }
 
+// A reply, and whether it matches an index write of id `1` and a delete of id `2`.
+const MATCHES: &[(&str, bool)] = &[
+    (
+        "{\"items\":[{\"index\":{\"_id\":\"1\",\"status\":400}},{\"delete\":{\"_id\":\"2\",\"status\":404}}]}",
+        true,
+    ),
+    (
+        "{\"items\":[{\"delete\":{\"_id\":\"2\",\"status\":404}},{\"index\":{\"_id\":\"1\",\"status\":400}}]}",
+        false,
+    ),
+    (
+        "{\"items\":[{\"index\":{\"_id\":\"1\",\"status\":400}}]}",
+        false,
+    ),
+    (
+        "{\"items\":[{\"index\":{\"_id\":\"1\",\"status\":400}},{\"index\":{\"_id\":\"2\",\"status\":404}}]}",
+        false,
+    ),
+    (
+        "{\"items\":[{\"index\":{\"_id\":\"1\",\"status\":400}},{\"delete\":{\"_id\":\"22\",\"status\":404}}]}",
+        false,
+    ),
+    (
+        "{\"items\":[{\"index\":{\"_id\":\"1\",\"status\":400}},{\"delete\":{\"_id\":\"2\",\"status\":404}},{\"delete\":{\"_id\":\"2\",\"status\":404}}]}",
+        false,
+    ),
+];
+
 #[test]
-fn matching(rt: HostRuntime) -> Result<(), Fail> {
-    let alloc = rt.alloc();
-    let mut writes = Vec::new(alloc);
-    writes.push(write_of(alloc, "1", Action::index(alloc, "{}")?)?)?;
-    writes.push(write_of(alloc, "2", Action::delete())?)?;
-    let rows = [
-        (
-            "{\"items\":[{\"index\":{\"_id\":\"1\",\"status\":400}},{\"delete\":{\"_id\":\"2\",\"status\":404}}]}",
-            true,
-        ),
-        (
-            "{\"items\":[{\"delete\":{\"_id\":\"2\",\"status\":404}},{\"index\":{\"_id\":\"1\",\"status\":400}}]}",
-            false,
-        ),
-        (
-            "{\"items\":[{\"index\":{\"_id\":\"1\",\"status\":400}}]}",
-            false,
-        ),
-        (
-            "{\"items\":[{\"index\":{\"_id\":\"1\",\"status\":400}},{\"index\":{\"_id\":\"2\",\"status\":404}}]}",
-            false,
-        ),
-        (
-            "{\"items\":[{\"index\":{\"_id\":\"1\",\"status\":400}},{\"delete\":{\"_id\":\"22\",\"status\":404}}]}",
-            false,
-        ),
-        (
-            "{\"items\":[{\"index\":{\"_id\":\"1\",\"status\":400}},{\"delete\":{\"_id\":\"2\",\"status\":404}},{\"delete\":{\"_id\":\"2\",\"status\":404}}]}",
-            false,
-        ),
-    ];
-    for (text, wanted) in rows {
-        assert!(rt; fits(alloc, text, writes.as_slice())? == wanted);
+fn matching(rt: HostRuntime) {
+    let writes = [index_write(&rt), write_of(&rt, "2", Action::delete())];
+    for (text, wanted) in MATCHES {
+        assert!(rt; fits(&rt, *text, &writes) == *wanted);
     }
     assert!(rt; matches(&[], &[]));
-    Ok(())
 }
 
 // A kind, a status, whether there is an error, the sends, the attempts and their maximum, and the
@@ -524,69 +490,68 @@ fn done_of(
     })
 }
 
-// The first `count` of six items of `b/2`, one for each result.
-fn first_items(alloc: Global, count: usize) -> Result<Vec<ItemDone>, Fail> {
-    let rows = [
-        (ActionKind::Delete, 404u16, DoneResult::NotFound, 5u64, 0u64),
-        (ActionKind::Index, 409, DoneResult::Conflict, 0, 0),
-        (ActionKind::Index, 201, DoneResult::Created, 6, 1),
-        (ActionKind::Index, 200, DoneResult::Updated, 7, 2),
-        (ActionKind::Delete, 200, DoneResult::Deleted, 8, 3),
-        (ActionKind::Delete, 429, DoneResult::Refused, 0, 0),
-    ];
-    let mut items = Vec::new(alloc);
-    for (kind, status, became, version, seq) in rows.into_iter().take(count) {
-        items.push(done_of(alloc, kind, status, became, version, seq)?)?;
-    }
-    Ok(items)
+// The same, where a failed allocation ends the test.
+fn item(
+    rt: &(impl Abort + AllocGlobal),
+    kind: ActionKind,
+    status: u16,
+    became: DoneResult,
+    version: u64,
+    seq: u64,
+) -> ItemDone {
+    done_of(rt.alloc(), kind, status, became, version, seq).expect(rt, "an item")
+}
+
+// Whether what a reply says is the outcome of an item.
+fn is_outcome(rt: &(impl Abort + AllocGlobal), read: &Outcome, item: &ItemDone) -> bool {
+    is_same(read, &item.outcome(rt.alloc()).expect(rt, "memory"))
 }
 
 // Whether a reply has the outcomes of these items, in order.
-fn reads_back(alloc: Global, text: &str, items: &[ItemDone]) -> Result<bool, Fail> {
-    let outcomes = read_reply(alloc, text.as_bytes())?;
+fn reads_back(rt: &(impl Abort + AllocGlobal), text: &str, items: &[ItemDone]) -> bool {
+    let outcomes = entries_of(rt, text);
     let mut same = outcomes.len() == items.len();
     for (outcome, item) in outcomes.iter().zip(items) {
-        same = same && is_same(outcome, &item.outcome(alloc)?);
+        same = same && is_outcome(rt, outcome, item);
     }
-    Ok(same)
+    same
 }
 
-// Whether the reply to the first `count` items is this text, and reads back.
-fn is_written(alloc: Global, took: u64, count: usize, wanted: &str) -> Result<bool, Fail> {
-    let items = first_items(alloc, count)?;
-    let text = write_reply(alloc, took, items.as_slice())?;
-    Ok(
-        items.len() == count
-            && text.as_str() == wanted
-            && reads_back(alloc, wanted, items.as_slice())?,
-    )
+// Whether the reply to these items is this text, and reads back.
+fn is_written(
+    rt: &(impl Abort + AllocGlobal),
+    took: u64,
+    items: &[ItemDone],
+    wanted: &str,
+) -> bool {
+    let text = write_reply(rt.alloc(), took, items).expect(rt, "memory");
+    text.as_str() == wanted && reads_back(rt, wanted, items)
 }
 
+// Replies to no item, to the first of six, and to all of them, one for each result.
 #[test]
-fn written_replies(rt: HostRuntime) -> Result<(), Fail> {
-    let rows = [
-        (7u64, 0usize, "{\"errors\":false,\"items\":[],\"took\":7}"),
-        (
-            0,
-            1,
-            "{\"errors\":false,\"items\":[{\"delete\":{\"_id\":\"2\",\"_index\":\"b\",\"_seq_no\":0,\"_version\":5,\"result\":\"not_found\",\"status\":404}}],\"took\":0}",
-        ),
-        (
-            0,
-            6,
-            "{\"errors\":true,\"items\":[\
-            {\"delete\":{\"_id\":\"2\",\"_index\":\"b\",\"_seq_no\":0,\"_version\":5,\"result\":\"not_found\",\"status\":404}},\
-            {\"index\":{\"_id\":\"2\",\"_index\":\"b\",\"error\":{\"type\":\"version_conflict_engine_exception\"},\"status\":409}},\
-            {\"index\":{\"_id\":\"2\",\"_index\":\"b\",\"_seq_no\":1,\"_version\":6,\"result\":\"created\",\"status\":201}},\
-            {\"index\":{\"_id\":\"2\",\"_index\":\"b\",\"_seq_no\":2,\"_version\":7,\"result\":\"updated\",\"status\":200}},\
-            {\"delete\":{\"_id\":\"2\",\"_index\":\"b\",\"_seq_no\":3,\"_version\":8,\"result\":\"deleted\",\"status\":200}},\
-            {\"delete\":{\"_id\":\"2\",\"_index\":\"b\",\"error\":{\"type\":\"scripted_refusal\"},\"status\":429}}],\"took\":0}",
-        ),
+fn written_replies(rt: HostRuntime) {
+    let items = [
+        item(&rt, ActionKind::Delete, 404, DoneResult::NotFound, 5, 0),
+        item(&rt, ActionKind::Index, 409, DoneResult::Conflict, 0, 0),
+        item(&rt, ActionKind::Index, 201, DoneResult::Created, 6, 1),
+        item(&rt, ActionKind::Index, 200, DoneResult::Updated, 7, 2),
+        item(&rt, ActionKind::Delete, 200, DoneResult::Deleted, 8, 3),
+        item(&rt, ActionKind::Delete, 429, DoneResult::Refused, 0, 0),
     ];
-    for (took, count, wanted) in rows {
-        assert!(rt; is_written(rt.alloc(), took, count, wanted)?);
-    }
-    Ok(())
+    let none = "{\"errors\":false,\"items\":[],\"took\":7}";
+    assert!(rt; is_written(&rt, 7, &[], none));
+    let first =
+        "{\"errors\":false,\"items\":[{\"delete\":{\"_id\":\"2\",\"_index\":\"b\",\"_seq_no\":0,\"_version\":5,\"result\":\"not_found\",\"status\":404}}],\"took\":0}";
+    assert!(rt; is_written(&rt, 0, &items[..1], first));
+    let all = "{\"errors\":true,\"items\":[\
+        {\"delete\":{\"_id\":\"2\",\"_index\":\"b\",\"_seq_no\":0,\"_version\":5,\"result\":\"not_found\",\"status\":404}},\
+        {\"index\":{\"_id\":\"2\",\"_index\":\"b\",\"error\":{\"type\":\"version_conflict_engine_exception\"},\"status\":409}},\
+        {\"index\":{\"_id\":\"2\",\"_index\":\"b\",\"_seq_no\":1,\"_version\":6,\"result\":\"created\",\"status\":201}},\
+        {\"index\":{\"_id\":\"2\",\"_index\":\"b\",\"_seq_no\":2,\"_version\":7,\"result\":\"updated\",\"status\":200}},\
+        {\"delete\":{\"_id\":\"2\",\"_index\":\"b\",\"_seq_no\":3,\"_version\":8,\"result\":\"deleted\",\"status\":200}},\
+        {\"delete\":{\"_id\":\"2\",\"_index\":\"b\",\"error\":{\"type\":\"scripted_refusal\"},\"status\":429}}],\"took\":0}";
+    assert!(rt; is_written(&rt, 0, &items, all));
 }
 
 // What an outcome says of its error.
@@ -635,29 +600,25 @@ fn write_again(alloc: Global, items: &[ItemDone]) -> Result<String, AllocError> 
 
 // A failed allocation is reported as out of memory, and a second call succeeds.
 #[test]
-fn refusals(rt: HostRuntime) -> Result<(), Fail> {
+fn refusals(rt: HostRuntime) {
     let text =
         b"{\"items\":[{\"index\":{\"_id\":\"1\",\"status\":400,\"error\":{\"type\":\"x\"}}}]}";
     assert!(rt; read_again(rt.alloc(), text) == Ok(1));
-    let items = [conflict_again(rt.alloc())?];
-    assert!(rt; outcome_again(rt.alloc(), &items[0])?.id.as_str() == "2");
-    let reply = write_again(rt.alloc(), &items)?;
+    let items = [conflict_again(rt.alloc()).expect(&rt, "an item")];
+    let outcome = outcome_again(rt.alloc(), &items[0]).expect(&rt, "memory");
+    assert!(rt; outcome.id.as_str() == "2");
+    let reply = write_again(rt.alloc(), &items).expect(&rt, "memory");
     assert!(rt;
         reply.as_str()
             == "{\"errors\":true,\"items\":[{\"index\":{\"_id\":\"2\",\"_index\":\"b\",\"error\":{\"type\":\"version_conflict_engine_exception\"},\"status\":409}}],\"took\":1}"
     );
-    Ok(())
 }
 
 // Whether the outcome of an item of `b/2` with this result has the same error.
-fn has_outcome(
-    alloc: Global,
-    became: DoneResult,
-    error: Option<&str>,
-) -> Result<bool, ActionFault> {
-    let item = done_of(alloc, ActionKind::Delete, 404, became, 1, 2)?;
-    let outcome = item.outcome(alloc).map_err(|_| ActionFault::Memory)?;
-    Ok(is_entry(&outcome, ActionKind::Delete, "2", 404, error))
+fn has_outcome(rt: &(impl Abort + AllocGlobal), became: DoneResult, error: Option<&str>) -> bool {
+    let item = item(rt, ActionKind::Delete, 404, became, 1, 2);
+    let outcome = item.outcome(rt.alloc()).expect(rt, "memory");
+    is_entry(&outcome, ActionKind::Delete, "2", 404, error)
 }
 
 const OUTCOMES: [(DoneResult, Option<&str>); 4] = [
@@ -673,6 +634,6 @@ const OUTCOMES: [(DoneResult, Option<&str>); 4] = [
 #[test]
 fn outcomes_of_items(rt: HostRuntime) {
     for (became, error) in &OUTCOMES {
-        assert!(rt; has_outcome(rt.alloc(), *became, *error) == Ok(true));
+        assert!(rt; has_outcome(&rt, *became, *error));
     }
 }
