@@ -1,12 +1,13 @@
 //! A thousand documents with three operations each.
 ghost use Rattle.relay_lane.specs.Out.{out_of};
+ghost use Rattle.std.specs.Option.{option_to_list};
 ghost use Rattle.std.specs.Prelude.{◌≡◌};
 
 use relay_batch::Limits;
 use relay_fixtures::applied::count_applied;
 use relay_fixtures::config::CONFIG;
 use relay_fixtures::desk::{Desk, closes, desk_of, puts};
-use relay_fixtures::index_wire::{Way, wire_of};
+use relay_fixtures::index_wire::{IndexWire, Way, wire_of};
 use relay_fixtures::notes::NO_PAUSES;
 use relay_lane::{RelayConfig, Totals, drain};
 use std::alloc::Global;
@@ -44,6 +45,16 @@ fn puts_all(rt: &impl Abort, alloc: Global, desk: &mut Desk)
     }
 }
 
+// Puts all of them, closes the lane, and drains it.
+fn drains(rt: &impl Abort, alloc: Global, desk: &mut Desk, wire: &mut IndexWire)
+    requires { option_to_list wire.old.flying ≡ out_of desk.old.lane.state }
+{
+    let mut pace = NO_PAUSES;
+    puts_all(rt, alloc, desk);
+    assert!(rt; closes(desk) && desk.lane.closed());
+    drain(&mut desk.lane, wire, &mut pace).expect(rt, "memory");
+}
+
 // Each is applied, the first of each document in the first request, and so on: a request looks at
 // each document once, and one more call finds nothing to look at.
 #[test]
@@ -51,10 +62,7 @@ fn three_of_each(rt: HostRuntime) {
     let alloc = rt.alloc();
     let mut desk = desk_of(alloc, ALL_AT_ONCE).expect(&rt, "a lane");
     let mut wire = wire_of(alloc, Way::Runs);
-    let mut pace = NO_PAUSES;
-    puts_all(&rt, alloc, &mut desk);
-    assert!(rt; closes(&mut desk) && desk.lane.closed());
-    drain(&mut desk.lane, &mut wire, &mut pace).expect(&rt, "memory");
+    drains(&rt, alloc, &mut desk, &mut wire);
     let totals = desk.lane.totals();
     let wanted = Totals {
         taken: OPERATIONS,

@@ -62,16 +62,21 @@ fn holding(alloc: Global, ids: &[&str]) -> Option<Desk>
     filled(alloc, CONFIG, ids, "{}")
 }
 
-// The outcome of draining a lane that closes, which took an operation for each of these documents,
-// over a wire of this kind.
+// The outcome of draining a lane that closes.
+fn came_to(rt: &impl Abort, alloc: Global, desk: &mut Desk, wire: &mut IndexWire) -> Came
+    requires { option_to_list wire.old.flying ≡ out_of desk.old.lane.state }
+{
+    let mut pace = NO_PAUSES;
+    assert!(rt; closes(desk) && desk.lane.closed());
+    drain(&mut desk.lane, wire, &mut pace).expect(rt, "memory");
+    assert!(rt; desk.lane.finished());
+    look_at(rt, alloc, &desk.lane, wire, &pace)
+}
+
+// The same for a lane that took an operation for each of these documents, over a wire of this kind.
 fn drained(rt: &impl Abort, alloc: Global, ids: &[&str], way: Way) -> Came {
     let mut desk = holding(alloc, ids).expect(rt, "a lane");
-    let mut wire = wire_of(alloc, way);
-    let mut pace = NO_PAUSES;
-    assert!(rt; closes(&mut desk) && desk.lane.closed());
-    drain(&mut desk.lane, &mut wire, &mut pace).expect(rt, "memory");
-    assert!(rt; desk.lane.finished());
-    look_at(rt, alloc, &desk.lane, &wire, &pace)
+    came_to(rt, alloc, &mut desk, &mut wire_of(alloc, way))
 }
 
 const NOTHING: Came = Came {

@@ -199,7 +199,8 @@ fn applied_four(lane: &Lane) -> bool {
         && lane.reports().is_empty()
 }
 
-// Whether a lane settles four operations, the first three by a pump or by a request and its answer.
+// Whether a lane settles four operations as applied, the first three by a pump or by a request and
+// its answer.
 fn works(alloc: Global, desk: &mut Desk, wire: &mut IndexWire, by_pump: bool) -> bool
     requires { option_to_list wire.old.flying ≡ out_of desk.old.lane.state }
 {
@@ -209,14 +210,14 @@ fn works(alloc: Global, desk: &mut Desk, wire: &mut IndexWire, by_pump: bool) ->
         && closes(desk)
         && turns(&mut desk.lane, wire)
         && drains(&mut desk.lane, wire)
+        && applied_four(&desk.lane)
 }
 
-// The same for a lane of its own: four operations are applied.
+// A lane of its own settles them, and each is in the index.
 fn applies_four(rt: &impl Abort, alloc: Global, by_pump: bool) {
     let mut desk = made_again(alloc).expect(rt, "three operations");
     let mut wire = wire_of(alloc, Way::Runs);
     assert!(rt; works(alloc, &mut desk, &mut wire, by_pump));
-    assert!(rt; applied_four(&desk.lane));
     assert!(rt; is_whole(alloc, &wire.index) == Some(true));
 }
 

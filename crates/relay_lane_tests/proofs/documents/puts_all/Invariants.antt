@@ -3,4 +3,4 @@ use Rattle.relay_lane.specs.Out.{out_of}
 use Rattle.relay_lane_tests.proofs.documents.puts_all.Given as goal
 
 abbrev pub invariant-loop-number : goal.invariant-loop-number
-invariant-loop-number l = out_of l.desk.lane.state ≡ out_of l.fn.desk.lane.state
+invariant-loop-number g l = out_of l.desk.lane.state ≡ out_of l.fn.desk.lane.state
