@@ -3,7 +3,6 @@ ghost use Rattle.std.specs.Prelude.{◌≤◌, IfOk};
 
 use relay_action::{ByteIn, ByteOut, StdStream, StreamFailed};
 use std::io;
-use std::test::Fail;
 
 // A reader and a writer that moves one byte per call, fails at the call with this number, and
 // counts its calls.
@@ -55,20 +54,18 @@ const ROWS: [(u64, Result<usize, StreamFailed>); 2] = [(1, Err(StreamFailed)), (
 
 // A failed read is not retried, and a read is not added to.
 #[test]
-fn a_read_is_one_call(rt: HostRuntime) -> Result<(), Fail> {
+fn a_read_is_one_call(rt: HostRuntime) {
     for (fail_at, answer) in ROWS {
         let mut device = Device { fail_at, calls: 0 };
         assert!(rt; read_once(&mut device) == answer && device.calls == 1);
     }
-    Ok(())
 }
 
 // A failed write is not retried, and after part was written no error of a second call is hidden.
 #[test]
-fn a_write_is_one_call(rt: HostRuntime) -> Result<(), Fail> {
+fn a_write_is_one_call(rt: HostRuntime) {
     for (fail_at, answer) in ROWS {
         let mut device = Device { fail_at, calls: 0 };
         assert!(rt; write_once(&mut device) == answer && device.calls == 1);
     }
-    Ok(())
 }

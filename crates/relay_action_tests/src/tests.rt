@@ -4,64 +4,54 @@ use relay_action::{
     StdStream, StreamFailed, Text, Write, lane_of, write_all,
 };
 use std::alloc::{AllocError, Global};
-use std::test::Fail;
+use std::process::Abort;
 
 // A text of this many letters.
-fn letters(alloc: Global, count: usize) -> Result<String, AllocError> {
+fn letters(rt: &impl Abort, alloc: Global, count: usize) -> String {
     let mut text = String::new(alloc);
     for _ in 0..count {
-        text.push('a')?;
+        text.push('a').expect(rt, "memory");
     }
-    Ok(text)
-}
-
-// Whether a text has these letters, equals its copy and differs from another.
-fn is_text(alloc: Global, letters: &str, other: &str) -> Result<bool, AllocError> {
-    let text = Text::new(alloc, letters)?;
-    Ok(text.as_str() == letters && text.copy()? == text && Text::new(alloc, other)? != text)
-}
-
-// Whether a list has these items, and returns them.
-fn is_list(alloc: Global, items: &[u8]) -> Result<bool, AllocError> {
-    let list = List::of(items.to_vec(alloc)?);
-    Ok(list.as_slice() == items && list.into_vec().as_slice() == items)
+    text
 }
 
 #[test]
 fn texts_and_lists_hold_what_they_were_given(rt: HostRuntime) {
-    assert!(rt; is_text(rt.alloc(), "b", "c") == Ok(true));
-    assert!(rt; is_list(rt.alloc(), &[3, 1]) == Ok(true));
+    let text = Text::new(rt.alloc(), "b").expect(&rt, "memory");
+    assert!(rt; text.as_str() == "b");
+    assert!(rt; text.copy().expect(&rt, "memory") == text);
+    assert!(rt; Text::new(rt.alloc(), "c").expect(&rt, "memory") != text);
+    let items = [3, 1].to_vec(rt.alloc()).expect(&rt, "memory");
+    let list = List::of(items);
+    assert!(rt; list.as_slice() == [3, 1].as_slice());
+    assert!(rt; list.into_vec().as_slice() == [3, 1].as_slice());
 }
 
-// Whether a text of this many letters has them, equals its copy, and is the empty text exactly if
-// there are none.
-fn is_text_of(alloc: Global, length: usize) -> Result<bool, AllocError> {
-    let letters = letters(alloc, length)?;
-    let text = Text::new(alloc, letters.as_str())?;
-    let is_empty = text == Text::empty();
-    Ok(text.as_str() == letters.as_str() && text.copy()? == text && is_empty == (length == 0))
-}
-
-// A text keeps its bytes, inline and on the heap.
+// A text keeps its bytes, inline and on the heap. It equals its copy, and is the empty text exactly
+// if it has no letters.
 #[test]
 fn texts_of_all_lengths(rt: HostRuntime) {
     for length in [0usize, 1, 37, 38, 39, 600] {
-        assert!(rt; is_text_of(rt.alloc(), length) == Ok(true));
+        let letters = letters(&rt, rt.alloc(), length);
+        let text = Text::new(rt.alloc(), letters.as_str()).expect(&rt, "memory");
+        assert!(rt; text.as_str() == letters.as_str());
+        assert!(rt; text.copy().expect(&rt, "memory") == text);
+        assert!(rt; (text == Text::empty()) == (length == 0));
     }
 }
 
 // Whether a key has this index and this id, and equals its copy.
-fn is_key(alloc: Global, index: &str, id: &str) -> Result<bool, ActionFault> {
+fn is_key(rt: &impl Abort, alloc: Global, index: &str, id: &str) -> Result<bool, ActionFault> {
     let key = DocKey::new(alloc, index, id)?;
-    let copy = key.copy().map_err(|_| ActionFault::Memory)?;
+    let copy = key.copy().expect(rt, "memory");
     Ok(key.index() == index && key.id() == id && copy == key)
 }
 
 // The same for an index and an id of this many letters.
-fn is_key_of(alloc: Global, index: usize, id: usize) -> Result<bool, ActionFault> {
-    let index = letters(alloc, index).map_err(|_| ActionFault::Memory)?;
-    let id = letters(alloc, id).map_err(|_| ActionFault::Memory)?;
-    is_key(alloc, index.as_str(), id.as_str())
+fn is_key_of(rt: &impl Abort, alloc: Global, index: usize, id: usize) -> Result<bool, ActionFault> {
+    let index = letters(rt, alloc, index);
+    let id = letters(rt, alloc, id);
+    is_key(rt, alloc, index.as_str(), id.as_str())
 }
 
 const KEYS: &[(usize, usize, Result<bool, ActionFault>)] = &[
@@ -78,7 +68,7 @@ const KEYS: &[(usize, usize, Result<bool, ActionFault>)] = &[
 #[test]
 fn keys_at_their_limits(rt: HostRuntime) {
     for (index, id, answer) in KEYS {
-        assert!(rt; is_key_of(rt.alloc(), *index, *id) == *answer);
+        assert!(rt; is_key_of(&rt, rt.alloc(), *index, *id) == *answer);
     }
 }
 
@@ -93,38 +83,36 @@ const NAMES: &[(ActionFault, &str)] = &[
     (ActionFault::Memory, "Memory"),
 ];
 
-// Whether a fault has this name, and is printed as that name.
-fn is_named(alloc: Global, fault: ActionFault, name: &str) -> Result<bool, AllocError> {
-    Ok(fault.name() == name && format!(in alloc; "{fault}")?.as_str() == name)
-}
-
 // A fault is printed as its name.
 #[test]
 fn names_of_faults(rt: HostRuntime) {
     for (fault, name) in NAMES {
-        assert!(rt; is_named(rt.alloc(), *fault, name) == Ok(true));
+        let printed = format!(in rt.alloc(); "{fault}").expect(&rt, "memory");
+        assert!(rt; fault.name() == *name);
+        assert!(rt; printed.as_str() == *name);
     }
 }
 
 // Whether an action indexes this text, and so does the copy of its source.
-fn indexes(action: &Action, text: &str) -> Result<bool, AllocError> {
+fn indexes(rt: &impl Abort, action: &Action, text: &str) -> bool {
     match action {
-        Action::Index(source) => Ok(source.text() == text && source.copy()?.text() == text),
-        Action::Delete => Ok(false),
+        Action::Index(source) => {
+            source.text() == text && source.copy().expect(rt, "memory").text() == text
+        }
+        Action::Delete => false,
     }
 }
 
 // The same for the action made of a text.
-fn is_source(alloc: Global, text: &str) -> Result<bool, ActionFault> {
+fn is_source(rt: &impl Abort, alloc: Global, text: &str) -> Result<bool, ActionFault> {
     let action = Action::index(alloc, text)?;
-    let same = indexes(&action, text).map_err(|_| ActionFault::Memory)?;
-    Ok(same && action.kind() == ActionKind::Index)
+    Ok(indexes(rt, &action, text) && action.kind() == ActionKind::Index)
 }
 
 // The same for a source of this many letters.
-fn is_source_of(alloc: Global, length: usize) -> Result<bool, ActionFault> {
-    let text = letters(alloc, length).map_err(|_| ActionFault::Memory)?;
-    is_source(alloc, text.as_str())
+fn is_source_of(rt: &impl Abort, alloc: Global, length: usize) -> Result<bool, ActionFault> {
+    let text = letters(rt, alloc, length);
+    is_source(rt, alloc, text.as_str())
 }
 
 const SOURCES: &[(&str, Result<bool, ActionFault>)] = &[
@@ -137,10 +125,10 @@ const SOURCES: &[(&str, Result<bool, ActionFault>)] = &[
 #[test]
 fn sources_at_their_limits(rt: HostRuntime) {
     for (text, answer) in SOURCES {
-        assert!(rt; is_source(rt.alloc(), text) == *answer);
+        assert!(rt; is_source(&rt, rt.alloc(), *text) == *answer);
     }
-    assert!(rt; is_source_of(rt.alloc(), 1_048_576) == Ok(true));
-    assert!(rt; is_source_of(rt.alloc(), 1_048_577) == Err(ActionFault::SourceLong));
+    assert!(rt; is_source_of(&rt, rt.alloc(), 1_048_576) == Ok(true));
+    assert!(rt; is_source_of(&rt, rt.alloc(), 1_048_577) == Err(ActionFault::SourceLong));
 }
 
 const KINDS: &[(&str, Option<ActionKind>)] = &[
@@ -162,61 +150,45 @@ fn kinds_of_names(rt: HostRuntime) {
 }
 
 // A write of a book.
-fn book(alloc: Global) -> Result<Write, Fail> {
-    Ok(Write {
-        key: DocKey::new(alloc, "books", "1")?,
+#[test]
+fn copies_of_writes_equal_them(rt: HostRuntime) {
+    let write = Write {
+        key: DocKey::new(rt.alloc(), "books", "1").expect(&rt, "a key"),
         version: 7,
-        action: Action::index(alloc, "{}")?,
-    })
-}
-
-// Whether the copy of a write of version 7 is that write.
-fn is_copied(write: &Write) -> Result<bool, AllocError> {
-    let copy = write.copy()?;
-    Ok(copy.key == write.key && copy.version == 7 && indexes(&copy.action, "{}")?)
-}
-
-#[test]
-fn copies_of_writes_equal_them(rt: HostRuntime) -> Result<(), Fail> {
-    let write = book(rt.alloc())?;
-    assert!(rt; is_copied(&write)?);
-    Ok(())
+        action: Action::index(rt.alloc(), "{}").expect(&rt, "a source"),
+    };
+    let copy = write.copy().expect(&rt, "memory");
+    assert!(rt; copy.key == write.key);
+    assert!(rt; copy.version == 7);
+    assert!(rt; indexes(&rt, &copy.action, "{}"));
 }
 
 #[test]
-fn copies_of_deletes_equal_them(rt: HostRuntime) -> Result<(), Fail> {
-    assert!(rt; matches!(&Action::delete().copy()?, Action::Delete));
+fn copies_of_deletes_equal_them(rt: HostRuntime) {
+    let copy = Action::delete().copy().expect(&rt, "memory");
+    assert!(rt; matches!(&copy, Action::Delete));
     assert!(rt; Action::delete().kind() == ActionKind::Delete);
-    Ok(())
 }
 
 // The removal of a book by producer 3, its operation 9.
-fn removal(alloc: Global) -> Result<Op, Fail> {
-    Ok(Op {
+#[test]
+fn copies_of_operations_equal_them(rt: HostRuntime) {
+    let op = Op {
         epoch: 0,
         producer: 3,
         number: 9,
-        key: DocKey::new(alloc, "books", "1")?,
+        key: DocKey::new(rt.alloc(), "books", "1").expect(&rt, "a key"),
         action: Action::delete(),
-    })
-}
-
-// Whether the copy of an operation has its name and its document.
-fn is_copied_op(op: &Op) -> Result<bool, AllocError> {
-    let copy = op.copy()?;
-    Ok(copy.name() == op.name() && copy.key == op.key)
-}
-
-#[test]
-fn copies_of_operations_equal_them(rt: HostRuntime) -> Result<(), Fail> {
-    let op = removal(rt.alloc())?;
+    };
     let name = OpName {
         epoch: 0,
         producer: 3,
         number: 9,
     };
-    assert!(rt; op.name() == name && is_copied_op(&op)?);
-    Ok(())
+    assert!(rt; op.name() == name);
+    let copy = op.copy().expect(&rt, "memory");
+    assert!(rt; copy.name() == op.name());
+    assert!(rt; copy.key == op.key);
 }
 
 // A key, made by a second call if the first one's allocation failed.
@@ -237,10 +209,11 @@ fn is_copied_key(key: &DocKey) -> bool {
 
 // A failed allocation is reported as out of memory, and nothing else changes.
 #[test]
-fn refusals(rt: HostRuntime) -> Result<(), Fail> {
-    let key = key_again(rt.alloc())?;
-    assert!(rt; is_copied_key(&key) && key.index() == "books" && key.id() == "1");
-    Ok(())
+fn refusals(rt: HostRuntime) {
+    let key = key_again(rt.alloc()).expect(&rt, "a key");
+    assert!(rt; is_copied_key(&key));
+    assert!(rt; key.index() == "books");
+    assert!(rt; key.id() == "1");
 }
 
 // What a generic caller sees of a stream.
@@ -252,23 +225,17 @@ fn copy_piece<S: ByteIn + ByteOut>(stream: &mut S) -> usize {
     }
 }
 
-// Whether a stream of six bytes in pieces of three, whose fourth call fails, is copied and written
-// like this.
-fn goes_in_pieces(alloc: Global) -> Result<bool, AllocError> {
-    let mut stream = MemStream::new(alloc, b"abcdef".to_vec(alloc)?, 5, 3, 4)?;
-    Ok(
-        copy_piece(&mut stream) == 3
-            && copy_piece(&mut stream) == 0
-            && stream.written() == b"abc".as_slice()
-            && stream.write(b"xyz") == Ok(2)
-            && stream.write(b"xyz") == Err(StreamFailed)
-            && stream.written() == b"abcxy".as_slice(),
-    )
-}
-
+// A stream of six bytes in pieces of three, whose fourth call fails.
 #[test]
 fn pieces(rt: HostRuntime) {
-    assert!(rt; goes_in_pieces(rt.alloc()) == Ok(true));
+    let input = b"abcdef".to_vec(rt.alloc()).expect(&rt, "memory");
+    let mut stream = MemStream::new(rt.alloc(), input, 5, 3, 4).expect(&rt, "memory");
+    assert!(rt; copy_piece(&mut stream) == 3);
+    assert!(rt; copy_piece(&mut stream) == 0);
+    assert!(rt; stream.written() == b"abc".as_slice());
+    assert!(rt; stream.write(b"xyz") == Ok(2));
+    assert!(rt; stream.write(b"xyz") == Err(StreamFailed));
+    assert!(rt; stream.written() == b"abcxy".as_slice());
 }
 
 const TEN: &[u8] = b"0123456789";
@@ -282,19 +249,15 @@ const SENT: &[(u64, Result<(), usize>)] = &[
     (5, Ok(())),
 ];
 
-// Whether this many bytes are sent, and no more are written.
-fn is_sent(alloc: Global, fail_at: u64, sent: Result<(), usize>) -> Result<bool, AllocError> {
-    let mut stream = MemStream::new(alloc, Vec::new(alloc), 10, 3, fail_at)?;
-    let found = write_all(&mut stream, TEN);
-    let count = sent.err().unwrap_or(10);
-    Ok(found == sent && TEN.get(..count) == Some(stream.written()))
-}
-
-// Each call in turn is the one that fails.
+// Each call in turn is the one that fails. No more is written than what was sent.
 #[test]
 fn each_call_fails_in_turn(rt: HostRuntime) {
     for (fail_at, sent) in SENT {
-        assert!(rt; is_sent(rt.alloc(), *fail_at, *sent) == Ok(true));
+        let nothing = Vec::new(rt.alloc());
+        let mut stream = MemStream::new(rt.alloc(), nothing, 10, 3, *fail_at).expect(&rt, "memory");
+        assert!(rt; write_all(&mut stream, TEN) == *sent);
+        let count = sent.err().unwrap_or(10);
+        assert!(rt; TEN.get(..count) == Some(stream.written()));
     }
 }
 
@@ -342,15 +305,12 @@ const LANES: &[(&str, u32)] = &[
     ("7", 7),
 ];
 
-// The lane of an id, with eight lanes and with one.
-fn lanes_of(alloc: Global, id: &str) -> Result<(u32, u32), ActionFault> {
-    let key = DocKey::new(alloc, "books", id)?;
-    Ok((lane_of(&key, 8), lane_of(&key, 1)))
-}
-
+// The same documents are all in the first lane if there is only one.
 #[test]
 fn lanes_of_documents(rt: HostRuntime) {
     for (id, lane) in LANES {
-        assert!(rt; lanes_of(rt.alloc(), id) == Ok((*lane, 0)));
+        let key = DocKey::new(rt.alloc(), "books", *id).expect(&rt, "a key");
+        assert!(rt; lane_of(&key, 8) == *lane);
+        assert!(rt; lane_of(&key, 1) == 0);
     }
 }

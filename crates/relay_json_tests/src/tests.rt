@@ -5,8 +5,8 @@ use relay_json::{
     Collect, Fields, Gather, Leaf, ReadFault, Scratch, Walk, after, plain_text, read_object,
     read_sole_object, take_decimal, take_plain,
 };
-use std::alloc::{AllocError, Global};
-use std::test::Fail;
+use std::alloc::Global;
+use std::process::Abort;
 
 // What is kept of the members of an object: their names, and the last value with the name `a`.
 #[derive(Clone, Copy, Drop)]
@@ -96,38 +96,40 @@ fn fault_of(alloc: Global, text: &[u8]) -> Option<ReadFault> {
     read_object(text, &mut scratch, Told::none()).err()
 }
 
-// Whether a fault is printed as this name.
-fn has_name(alloc: Global, fault: ReadFault, name: &str) -> Result<bool, AllocError> {
-    Ok(format!(in alloc; "{fault}")?.as_str() == name)
-}
-
+// A fault is printed as its name.
 #[test]
 fn names_of_faults(rt: HostRuntime) {
-    assert!(rt; has_name(rt.alloc(), ReadFault::NotJson, "NotJson") == Ok(true));
-    assert!(rt; has_name(rt.alloc(), ReadFault::Memory, "Memory") == Ok(true));
+    for (fault, name) in [
+        (ReadFault::NotJson, "NotJson"),
+        (ReadFault::Memory, "Memory"),
+    ] {
+        let printed = format!(in rt.alloc(); "{fault}").expect(&rt, "memory");
+        assert!(rt; printed.as_str() == name);
+    }
 }
 
 // Nested brackets: this many openings, a middle and as many closings, between a front and a back.
 fn nested(
+    rt: &impl Abort,
     alloc: Global,
     front: &str,
     opening: &str,
     count: usize,
     middle: &str,
     closing: &str,
-) -> Result<String, AllocError> {
-    let mut text = String::from_str(alloc, front)?;
+) -> String {
+    let mut text = String::from_str(alloc, front).expect(rt, "memory");
     for _ in 0..count {
-        text.push_str(opening)?;
+        text.push_str(opening).expect(rt, "memory");
     }
-    text.push_str(middle)?;
+    text.push_str(middle).expect(rt, "memory");
     for _ in 0..count {
-        text.push_str(closing)?;
+        text.push_str(closing).expect(rt, "memory");
     }
     if !front.is_empty() {
-        text.push('}')?;
+        text.push('}').expect(rt, "memory");
     }
-    Ok(text)
+    text
 }
 
 const NO_VALUES: &[&[u8]] = &[
@@ -203,28 +205,19 @@ const DEPTHS: [(&str, &str, usize, &str, &str, Option<ReadFault>); 7] = [
 
 // JSON is nested at most 127 deep, even in a member that is not looked at.
 #[test]
-fn depth(rt: HostRuntime) -> Result<(), Fail> {
+fn depth(rt: HostRuntime) {
     let alloc = rt.alloc();
     for (front, opening, count, middle, closing, fault) in &DEPTHS {
-        let text = nested(alloc, front, opening, *count, middle, closing)?;
+        let text = nested(&rt, alloc, front, opening, *count, middle, closing);
         assert!(rt; fault_of(alloc, text.as_bytes()) == *fault);
     }
-    Ok(())
 }
 
-// The member `a` of a text that is an object.
-fn member_a<'t>(text: &'t str, scratch: &'t mut Scratch) -> Result<Option<Leaf<'t>>, ReadFault> {
-    match read_object(text.as_bytes(), scratch, Told::none())? {
-        Some(told) => Ok(told.a),
-        None => Ok(None),
-    }
-}
-
-// Whether the member `a` of an object is this text.
-fn has_text(alloc: Global, text: &str, found: Option<&str>) -> Result<bool, ReadFault> {
-    let mut scratch = Scratch::new(alloc);
-    let leaf = member_a(text, &mut scratch)?;
-    Ok(leaf.and_then(|leaf| leaf.as_str()) == found)
+// The member `a` of a text, if it is an object and has one.
+fn member_a<'t>(rt: &impl Abort, text: &'t str, scratch: &'t mut Scratch) -> Option<Leaf<'t>> {
+    read_object(text.as_bytes(), scratch, Told::none())
+        .expect(rt, "a value")
+        .and_then(|told| told.a)
 }
 
 const MEMBERS: [(&str, Option<&str>); 9] = [
@@ -243,21 +236,9 @@ const MEMBERS: [(&str, Option<&str>); 9] = [
 #[test]
 fn members(rt: HostRuntime) {
     for (text, found) in &MEMBERS {
-        assert!(rt; has_text(rt.alloc(), text, *found) == Ok(true));
-    }
-}
-
-// Whether a text is an object with this many members and these names.
-fn has_names(
-    alloc: Global,
-    text: &str,
-    count: usize,
-    names: &[&str; 4],
-) -> Result<bool, ReadFault> {
-    let mut scratch = Scratch::new(alloc);
-    match read_object(text.as_bytes(), &mut scratch, Told::none())? {
-        Some(told) => Ok(told.count == count && told.names == *names),
-        None => Ok(false),
+        let mut scratch = Scratch::new(rt.alloc());
+        let leaf = member_a(&rt, text, &mut scratch);
+        assert!(rt; leaf.and_then(|leaf| leaf.as_str()) == *found);
     }
 }
 
@@ -277,21 +258,16 @@ const NAMES: [(&str, usize, [&str; 4]); 5] = [
 #[test]
 fn names_of_members(rt: HostRuntime) {
     for (text, count, names) in &NAMES {
-        assert!(rt; has_names(rt.alloc(), text, *count, names) == Ok(true));
+        let mut scratch = Scratch::new(rt.alloc());
+        let found = read_object(text.as_bytes(), &mut scratch, Told::none());
+        let told = found.expect(&rt, "a value").expect(&rt, "an object");
+        assert!(rt; told.count == *count);
+        assert!(rt; told.names == *names);
     }
 }
 
-// Whether a value is an object whose only member is an object of this name, with this integer `a` in it.
-fn has_sole(
-    alloc: Global,
-    text: &str,
-    found: Option<(&str, Option<u64>)>,
-) -> Result<bool, ReadFault> {
-    let mut scratch = Scratch::new(alloc);
-    let sole = read_sole_object::<Told>(text.as_bytes(), &mut scratch)?;
-    Ok(sole.map(|(name, told)| (name, told.a.and_then(|leaf| leaf.as_u64()))) == found)
-}
-
+// A text, and if it is an object whose only member is an object: the name of that one, and the
+// integer `a` in it.
 const SOLE_OBJECTS: &[(&str, Option<(&str, Option<u64>)>)] = &[
     ("{\"x\":{\"a\":1}}", Some(("x", Some(1)))),
     ("{\"x\":{}}", Some(("x", None))),
@@ -314,7 +290,11 @@ const SOLE_OBJECTS: &[(&str, Option<(&str, Option<u64>)>)] = &[
 #[test]
 fn sole_objects(rt: HostRuntime) {
     for (text, found) in SOLE_OBJECTS {
-        assert!(rt; has_sole(rt.alloc(), text, *found) == Ok(true));
+        let mut scratch = Scratch::new(rt.alloc());
+        let read = read_sole_object::<Told>(text.as_bytes(), &mut scratch);
+        let sole = read.expect(&rt, "a value");
+        let told = sole.map(|(name, told)| (name, told.a.and_then(|leaf| leaf.as_u64())));
+        assert!(rt; told == *found);
     }
 }
 
@@ -350,20 +330,13 @@ const INTEGERS: [(&str, Option<u64>, Option<i64>); 12] = [
     ("{\"a\":\"1\"}", None, None),
 ];
 
-// The member `a` of an object as an unsigned and a signed 64-bit integer.
-fn integers_of(alloc: Global, text: &str) -> Result<(Option<u64>, Option<i64>), ReadFault> {
-    let mut scratch = Scratch::new(alloc);
-    let leaf = member_a(text, &mut scratch)?;
-    Ok((
-        leaf.and_then(|leaf| leaf.as_u64()),
-        leaf.and_then(|leaf| leaf.as_i64()),
-    ))
-}
-
 #[test]
 fn numbers_as_integers(rt: HostRuntime) {
     for (text, unsigned, signed) in &INTEGERS {
-        assert!(rt; integers_of(rt.alloc(), text) == Ok((*unsigned, *signed)));
+        let mut scratch = Scratch::new(rt.alloc());
+        let leaf = member_a(&rt, text, &mut scratch).expect(&rt, "a member");
+        assert!(rt; leaf.as_u64() == *unsigned);
+        assert!(rt; leaf.as_i64() == *signed);
     }
 }
 
@@ -379,20 +352,14 @@ const KINDS: [(&'static str, Leaf<'static>); 9] = [
     ("{\"a\":0.00}", Leaf::Number("0.00")),
 ];
 
-// Whether the member `a` of an object is this value, and null exactly if this is.
-fn has_kind(alloc: Global, text: &str, kind: Leaf) -> Result<bool, ReadFault> {
-    let mut scratch = Scratch::new(alloc);
-    match member_a(text, &mut scratch)? {
-        Some(leaf) => Ok(leaf == kind && leaf.is_null() == (kind == Leaf::Null)),
-        None => Ok(false),
-    }
-}
-
 // The top level of a value.
 #[test]
 fn kinds(rt: HostRuntime) {
     for (text, kind) in &KINDS {
-        assert!(rt; has_kind(rt.alloc(), text, *kind) == Ok(true));
+        let mut scratch = Scratch::new(rt.alloc());
+        let leaf = member_a(&rt, text, &mut scratch).expect(&rt, "a member");
+        assert!(rt; leaf == *kind);
+        assert!(rt; leaf.is_null() == (*kind == Leaf::Null));
     }
 }
 
@@ -417,7 +384,7 @@ fn of_items(count: usize, integers: [Option<u64>; 4]) -> Option<Integers> {
 
 // The items of an array, in order.
 #[test]
-fn items_in_order(rt: HostRuntime) -> Result<(), Fail> {
+fn items_in_order(rt: HostRuntime) {
     let rows: [(&str, Option<Integers>); 6] = [
         (
             "{\"a\":[3,1,2]}",
@@ -437,13 +404,10 @@ fn items_in_order(rt: HostRuntime) -> Result<(), Fail> {
     ];
     for (text, integers) in rows {
         let mut scratch = Scratch::new(rt.alloc());
-        let listed = read_object(text.as_bytes(), &mut scratch, Listed { items: None })
-            .ok()
-            .flatten()
-            .ok_or("an object")?;
+        let found = read_object(text.as_bytes(), &mut scratch, Listed { items: None });
+        let listed = found.expect(&rt, "a value").expect(&rt, "an object");
         assert!(rt; listed.items == integers);
     }
-    Ok(())
 }
 
 // How many members the last member has, if it is an object, otherwise its top level.
@@ -463,18 +427,6 @@ impl<'t> Gather<'t> for Last<'t> {
     }
 }
 
-// Whether the last member of an object is an object with this many members, or this leaf.
-fn has_last(alloc: Global, text: &str, last: Result<usize, Leaf>) -> Result<bool, ReadFault> {
-    let mut scratch = Scratch::new(alloc);
-    let start = Last {
-        last: Err(Leaf::Null),
-    };
-    match read_object(text.as_bytes(), &mut scratch, start)? {
-        Some(found) => Ok(found.last == last),
-        None => Ok(false),
-    }
-}
-
 const LASTS: [(&str, Result<usize, Leaf>); 6] = [
     ("{\"a\":{}}", Ok(0)),
     ("{\"a\":7,\"b\":{\"x\":1,\"y\":{\"z\":2}}}", Ok(2)),
@@ -487,7 +439,13 @@ const LASTS: [(&str, Result<usize, Leaf>); 6] = [
 #[test]
 fn objects_or_leaves(rt: HostRuntime) {
     for (text, last) in &LASTS {
-        assert!(rt; has_last(rt.alloc(), text, *last) == Ok(true));
+        let mut scratch = Scratch::new(rt.alloc());
+        let start = Last {
+            last: Err(Leaf::Null),
+        };
+        let read = read_object(text.as_bytes(), &mut scratch, start);
+        let found = read.expect(&rt, "a value").expect(&rt, "an object");
+        assert!(rt; found.last == *last);
     }
 }
 

@@ -6,6 +6,7 @@ use relay_action::MemStream;
 use relay_index::{Index, Script, may_refuse};
 use relay_stub::{AcceptFailed, Listen, ServeError, stub_serve};
 use std::alloc::Global;
+use std::process::Abort;
 
 /// A connection: what is read from it, how many bytes may be written to it, which of its calls
 /// fails (0: none), and what should be written to it.
@@ -115,31 +116,28 @@ impl Listen<MemStream> for Desk<'_> {
 }
 
 /// A script of these refusals.
-pub fn script_of(alloc: Global, refusals: &[(u64, u16)]) -> Option<Script> {
+pub fn script_of(rt: &impl Abort, alloc: Global, refusals: &[(u64, u16)]) -> Script {
     let mut script = Script::new(alloc);
     for (place, status) in refusals {
-        if !may_refuse(*status) || script.refuse(*place, *status).is_err() {
-            return None;
-        }
+        assert!(rt; may_refuse(*status));
+        script.refuse(*place, *status).expect(rt, "memory");
     }
-    Some(script)
+    script
 }
 
-/// Serves this many connections with an index. Returns the result, or `None` if something else was
-/// written to a connection or it was not taken back.
+/// Serves this many connections with an index, and returns the result. To each of them is written
+/// what is expected, and each is taken back.
 pub fn serves(
+    rt: &impl Abort,
     alloc: Global,
     visits: &[Visit<'_>],
     piece: usize,
     requests: u64,
     index: &mut Index,
     script: &mut Script,
-) -> Option<Result<(), ServeError>> {
+) -> Result<(), ServeError> {
     let mut desk = Desk::new(alloc, visits, piece);
     let result = stub_serve(alloc, &mut desk, requests, index, script);
-    if desk.served(visits.len()) {
-        Some(result)
-    } else {
-        None
-    }
+    assert!(rt; desk.served(visits.len()));
+    result
 }

@@ -3,7 +3,6 @@
 use crate::desk::{Visit, script_of, serves};
 use relay_index::Index;
 use relay_stub::listing::listing;
-use std::alloc::Global;
 
 // A request, and its answer.
 const ROWS: &[(&[u8], &[u8])] = &[
@@ -40,25 +39,21 @@ const ROWS: &[(&[u8], &[u8])] = &[
 const LINES: &[u8] =
     b"applied r/e 1 index\napplied r/e 2 index\napplied r/e 9 index\napplied r/e 10 index\n";
 
-// Serves each row on a connection of its own, and compares what is written and what was applied.
-fn serves_all(alloc: Global) -> Option<bool> {
-    let mut index = Index::new(alloc);
-    let mut script = script_of(alloc, &[])?;
-    for (input, wanted) in ROWS {
-        let visit = Visit {
-            input,
-            room: 1_000,
-            fail_at: 0,
-            wanted,
-        };
-        if serves(alloc, &[visit], 100, 1, &mut index, &mut script)? != Ok(()) {
-            return Some(false);
-        }
-    }
-    Some(listing(alloc, &index).ok()?.as_slice() == LINES)
-}
-
+// Each row is served on a connection of its own.
 #[test]
 fn documents(rt: HostRuntime) {
-    assert!(rt; serves_all(rt.alloc()) == Some(true));
+    let alloc = rt.alloc();
+    let mut index = Index::new(alloc);
+    let mut script = script_of(&rt, alloc, &[]);
+    for (input, wanted) in ROWS {
+        let visits = [Visit {
+            input: *input,
+            room: 1_000,
+            fail_at: 0,
+            wanted: *wanted,
+        }];
+        assert!(rt; serves(&rt, alloc, &visits, 100, 1, &mut index, &mut script) == Ok(()));
+    }
+    let lines = listing(alloc, &index).expect(&rt, "memory");
+    assert!(rt; lines.as_slice() == LINES);
 }

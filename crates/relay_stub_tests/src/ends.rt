@@ -5,6 +5,7 @@ use relay_index::Index;
 use relay_stub::command::{StubFault, exit_of_stub, stub};
 use relay_words::Exit;
 use std::alloc::Global;
+use std::process::Abort;
 
 pub const DELETES: &[u8] =
     b"POST /_bulk HTTP/1.1\r\nHost: h\r\nContent-Length: 297\r\n\r\n{\"delete\":{\"_id\":\"2\",\"_index\":\"b\",\"version\":1,\"version_type\":\"external\"}}\n{\"delete\":{\"_id\":\"3\",\"_index\":\"b\",\"version\":2,\"version_type\":\"external\"}}\n{\"delete\":{\"_id\":\"10\",\"_index\":\"b\",\"version\":3,\"version_type\":\"external\"}}\n{\"delete\":{\"_id\":\"9\",\"_index\":\"a\",\"version\":4,\"version_type\":\"external\"}}\n";
@@ -17,20 +18,21 @@ pub const LINES: &[u8] = b"applied a/9 4 delete\napplied b/10 3 delete\napplied 
 // The result of the command over a connection with these deletes, with this room for output, if
 // this many connections are requested; and whether this is what it wrote.
 fn ends(
+    rt: &impl Abort,
     alloc: Global,
     requests: u64,
     room: usize,
     wanted: &[u8],
-) -> Option<(Result<(), StubFault>, bool)> {
+) -> (Result<(), StubFault>, bool) {
     let visits = [Visit {
         input: DELETES,
         room: 1000,
         fail_at: 0,
         wanted: ANSWER,
     }];
-    let script = script_of(alloc, &[(2, 503)])?;
+    let script = script_of(rt, alloc, &[(2, 503)]);
     let mut desk = Desk::new(alloc, &visits, 100);
-    let mut writer = MemStream::new(alloc, Vec::new(alloc), room, 10, 0).ok()?;
+    let mut writer = MemStream::new(alloc, Vec::new(alloc), room, 10, 0).expect(rt, "memory");
     let result = stub(
         alloc,
         &mut desk,
@@ -39,7 +41,7 @@ fn ends(
         script,
         &mut writer,
     );
-    Some((result, desk.served(1) && writer.written() == wanted))
+    (result, desk.served(1) && writer.written() == wanted)
 }
 
 // The number of connections requested, the room for output, what is written, and the exit status.
@@ -59,20 +61,13 @@ const ENDS: &[(u64, usize, &[u8], Result<(), StubFault>)] = &[
 fn lists_or_fails(rt: HostRuntime) {
     for (requests, room, wanted, answer) in ENDS {
         assert!(rt;
-            ends(rt.alloc(), *requests, *room, *wanted) == Some((*answer, true)),
+            ends(&rt, rt.alloc(), *requests, *room, *wanted) == (*answer, true),
             "{answer:?}"
         );
     }
 }
 
-// Whether a fault has this exit status, and is printed as this.
-fn is_told(alloc: Global, fault: StubFault, exit: Exit, said: &str) -> bool {
-    match format!(in alloc; "{fault}") {
-        Ok(text) => exit_of_stub(fault) == exit && text.as_str() == said,
-        Err(_) => false,
-    }
-}
-
+// A fault, its exit status, and what is printed of it.
 const STATUSES: &[(StubFault, Exit, &str)] = &[
     (StubFault::Accept, Exit::Device, "accept failed"),
     (StubFault::Write { sent: 1 }, Exit::Device, "write failed"),
@@ -82,6 +77,8 @@ const STATUSES: &[(StubFault, Exit, &str)] = &[
 #[test]
 fn statuses(rt: HostRuntime) {
     for (fault, exit, said) in STATUSES {
-        assert!(rt; is_told(rt.alloc(), *fault, *exit, *said), "{said}");
+        let printed = format!(in rt.alloc(); "{fault}").expect(&rt, "memory");
+        assert!(rt; exit_of_stub(*fault) == *exit, "{said}");
+        assert!(rt; printed.as_str() == *said);
     }
 }

@@ -1,9 +1,10 @@
 //! Connections that are served one after another.
 use crate::desk::{Visit, script_of, serves};
-use relay_index::{Index, Script};
+use relay_index::Index;
 use relay_stub::ServeError;
 use relay_stub::listing::listing;
 use std::alloc::Global;
+use std::process::Abort;
 
 // A delete of document 1 with version 5.
 const DELETE: &[u8] =
@@ -80,6 +81,7 @@ const fn visit<'a>(input: &'a [u8], wanted: &'a [u8]) -> Visit<'a> {
 // Whether this many connections are served with this result, and these are the lines of the index
 // then.
 fn leaves(
+    rt: &impl Abort,
     alloc: Global,
     visits: &[Visit<'_>],
     requests: u64,
@@ -87,12 +89,13 @@ fn leaves(
     answer: Result<(), ServeError>,
     lines: &str,
 ) -> bool {
-    leaves_by(alloc, visits, 7, requests, refusals, answer, lines)
-        && leaves_by(alloc, visits, 4096, requests, refusals, answer, lines)
+    leaves_by(rt, alloc, visits, 7, requests, refusals, answer, lines)
+        && leaves_by(rt, alloc, visits, 4096, requests, refusals, answer, lines)
 }
 
 // The same, over streams that move a few bytes per call.
 fn leaves_by(
+    rt: &impl Abort,
     alloc: Global,
     visits: &[Visit<'_>],
     piece: usize,
@@ -101,33 +104,11 @@ fn leaves_by(
     answer: Result<(), ServeError>,
     lines: &str,
 ) -> bool {
-    match script_of(alloc, refusals) {
-        Some(script) => serves_and_lists(alloc, visits, piece, requests, script, answer, lines),
-        None => false,
-    }
-}
-
-// The same with this script.
-fn serves_and_lists(
-    alloc: Global,
-    visits: &[Visit<'_>],
-    piece: usize,
-    requests: u64,
-    mut script: Script,
-    answer: Result<(), ServeError>,
-    lines: &str,
-) -> bool {
     let mut index = Index::new(alloc);
-    serves(alloc, visits, piece, requests, &mut index, &mut script) == Some(answer)
-        && lists(alloc, &index, lines)
-}
-
-// Whether these are the lines of the index.
-fn lists(alloc: Global, index: &Index, lines: &str) -> bool {
-    match listing(alloc, index) {
-        Ok(text) => text.as_slice() == lines.as_bytes(),
-        Err(_) => false,
-    }
+    let mut script = script_of(rt, alloc, refusals);
+    let served = serves(rt, alloc, visits, piece, requests, &mut index, &mut script);
+    let listed = listing(alloc, &index).expect(rt, "memory");
+    served == answer && listed.as_slice() == lines.as_bytes()
 }
 
 const ONE: &str = "applied b/1 5 delete\n";
@@ -159,6 +140,7 @@ fn single_requests(rt: HostRuntime) {
     for (input, wanted, lines) in SINGLE {
         assert!(rt;
             leaves(
+                &rt,
                 rt.alloc(),
                 &[visit(*input, *wanted)],
                 1,
@@ -181,7 +163,7 @@ fn one_after_another(rt: HostRuntime) {
         visit(LATER, LATER_ANSWER),
     ];
     let lines = "applied b/0 1 index\napplied b/1 5 delete\napplied b/1 6 delete\n";
-    assert!(rt; leaves(rt.alloc(), &visits, 5, &[], Ok(()), lines));
+    assert!(rt; leaves(&rt, rt.alloc(), &visits, 5, &[], Ok(()), lines));
 }
 
 // Positions are counted over all requests; a request that is not bulk has none.
@@ -195,7 +177,17 @@ fn refusals(rt: HostRuntime) {
         visit(LATER, LATER_REFUSED),
     ];
     let lines = "applied b/1 5 delete\napplied b/1 6 delete\n";
-    assert!(rt; leaves(rt.alloc(), &visits, 5, &[(1, 429), (5, 503)], Ok(()), lines));
+    assert!(rt;
+        leaves(
+            &rt,
+            rt.alloc(),
+            &visits,
+            5,
+            &[(1, 429), (5, 503)],
+            Ok(()),
+            lines
+        )
+    );
 }
 
 // No more are accepted than requested; if there are fewer, the last call of the listener fails.
@@ -203,39 +195,48 @@ fn refusals(rt: HostRuntime) {
 fn as_many_as_asked_for(rt: HostRuntime) {
     let alloc = rt.alloc();
     let none: [Visit<'_>; 0] = [];
-    assert!(rt; leaves(alloc, &none, 0, &[], Ok(()), ""));
-    assert!(rt; leaves(alloc, &none, 1, &[], Err(ServeError::Accept), ""));
+    assert!(rt; leaves(&rt, alloc, &none, 0, &[], Ok(()), ""));
+    assert!(rt; leaves(&rt, alloc, &none, 1, &[], Err(ServeError::Accept), ""));
     let one = [visit(DELETE, NOT_FOUND)];
-    assert!(rt; leaves(alloc, &one, 1, &[], Ok(()), ONE));
-    assert!(rt; leaves(alloc, &one, u64::MAX, &[], Err(ServeError::Accept), ONE));
+    assert!(rt; leaves(&rt, alloc, &one, 1, &[], Ok(()), ONE));
+    assert!(rt;
+        leaves(
+            &rt,
+            alloc,
+            &one,
+            u64::MAX,
+            &[],
+            Err(ServeError::Accept),
+            ONE
+        )
+    );
 }
 
 // Whether a writer that takes this many bytes of an answer has a prefix of it, the run is kept, and
 // the next connection is served.
-fn stays_cut_at(alloc: Global, room: usize) -> bool {
-    let Some(wanted) = NOT_FOUND.get(..room) else {
-        return false;
-    };
+fn stays_cut_at(rt: &impl Abort, alloc: Global, room: usize) -> bool {
+    let wanted = NOT_FOUND.get(..room).expect(rt, "that many bytes");
     let cut = Visit {
         input: DELETE,
         room,
         fail_at: 0,
         wanted,
     };
-    leaves(alloc, &[cut, visit(DELETE, CONFLICT)], 2, &[], Ok(()), ONE)
+    let visits = [cut, visit(DELETE, CONFLICT)];
+    leaves(rt, alloc, &visits, 2, &[], Ok(()), ONE)
 }
 
 // The answer has 221 bytes.
 #[test]
 fn answers_cut_short(rt: HostRuntime) {
     for room in [0usize, 1, 100, 220] {
-        assert!(rt; stays_cut_at(rt.alloc(), room), "{room}");
+        assert!(rt; stays_cut_at(&rt, rt.alloc(), room), "{room}");
     }
 }
 
 // One call of the first connection fails: a read, and nothing is run, or the write of the answer,
 // and the run is kept. With 4096 bytes per call there is one of each.
-fn fails_at(alloc: Global, fail_at: u64) -> bool {
+fn fails_at(rt: &impl Abort, alloc: Global, fail_at: u64) -> bool {
     let failing = Visit {
         input: DELETE,
         room: 1000,
@@ -243,12 +244,12 @@ fn fails_at(alloc: Global, fail_at: u64) -> bool {
         wanted: b"",
     };
     let lines = if fail_at == 1 { "" } else { ONE };
-    leaves_by(alloc, &[failing], 4096, 1, &[], Ok(()), lines)
+    leaves_by(rt, alloc, &[failing], 4096, 1, &[], Ok(()), lines)
 }
 
 #[test]
 fn each_call_fails_in_turn(rt: HostRuntime) {
     for fail_at in 1..=2u64 {
-        assert!(rt; fails_at(rt.alloc(), fail_at), "{fail_at}");
+        assert!(rt; fails_at(&rt, rt.alloc(), fail_at), "{fail_at}");
     }
 }

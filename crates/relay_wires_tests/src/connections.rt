@@ -1,12 +1,11 @@
 //! Connections that are used again or not, dials and streams that fail, and the maximum number of
 //! outstanding requests.
-ghost use Rattle.std.specs.Prelude.{◌≡◌, [], true, length};
-ghost use Rattle.relay_wires.specs.Numbers.{numbers};
 
-use crate::streams::{BUSY, Wired, wired};
+use crate::streams::{BUSY, wired};
 use relay_fixtures::asking::{Told, asks};
-use relay_lane::{Loss, Wire};
+use relay_lane::Loss;
 use std::alloc::Global;
+use std::process::Abort;
 
 // Two replies after which the connection may be used again, and one after which it may not.
 const KEPT_TWICE: &[u8] =
@@ -16,14 +15,16 @@ const CLOSED: &[u8] =
     b"HTTP/1.1 503 Busy\r\nConnection: close\r\nContent-Length: 0\r\n\r\nHTTP/1.1 502 Bad\r\n\r\n";
 
 // The results of two deletes one after the other, over streams with these bytes.
-fn twice(alloc: Global, inputs: &[&[u8]], room: usize, fail_at: usize) -> (Told, Told) {
-    match wired(alloc, inputs, room, fail_at, 1) {
-        Some(mut wire) => {
-            let first = asks(alloc, &mut wire, 1, "2", 2);
-            (first, asks(alloc, &mut wire, 2, "2", 2))
-        }
-        None => (Told::NotAsked, Told::NotAsked),
-    }
+fn twice(
+    rt: &impl Abort,
+    alloc: Global,
+    inputs: &[&[u8]],
+    room: usize,
+    fail_at: usize,
+) -> (Told, Told) {
+    let mut wire = wired(alloc, inputs, room, fail_at, 1).expect(rt, "memory");
+    let first = asks(alloc, &mut wire, 1, "2", 2);
+    (first, asks(alloc, &mut wire, 2, "2", 2))
 }
 
 const NOT_SENT: Told = Told::Fault(Loss::Unreachable);
@@ -66,7 +67,7 @@ const DIALS: &[(&[&[u8]], usize, usize, (Told, Told))] = &[
 fn used_again_or_dialled(rt: HostRuntime) {
     for (inputs, room, fail_at, wanted) in DIALS {
         assert!(rt;
-            twice(rt.alloc(), *inputs, *room, *fail_at) == *wanted,
+            twice(&rt, rt.alloc(), *inputs, *room, *fail_at) == *wanted,
             "{wanted:?}"
         );
     }

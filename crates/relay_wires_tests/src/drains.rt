@@ -12,6 +12,7 @@ use relay_fixtures::notes::NO_PAUSES;
 use relay_lane::{Wire, drain};
 use relay_loop::LoopWire;
 use std::alloc::Global;
+use std::process::Abort;
 
 /// The outcome of a drain.
 #[derive(Clone, Copy, Debug, PartialEq, Eq)]
@@ -24,57 +25,43 @@ pub struct Came {
     pub reports: usize,
 }
 
-/// Drains a closed lane over a wire. `None`: an allocation failed, or it is not closed.
-pub fn drained<W: Wire>(desk: &mut Desk, wire: &mut W) -> Option<Came>
+/// Drains a closed lane over a wire.
+pub fn drained<W: Wire>(rt: &impl Abort, desk: &mut Desk, wire: &mut W) -> Came
     requires { W.out wire.old ≡ out_of desk.old.lane.state }
 {
     let mut pace = NO_PAUSES;
-    if !desk.lane.closed() || drain(&mut desk.lane, wire, &mut pace).is_err() {
-        return None;
-    }
+    assert!(rt; desk.lane.closed());
+    drain(&mut desk.lane, wire, &mut pace).expect(rt, "memory");
     let totals = desk.lane.totals();
-    Some(Came {
+    Came {
         requests: totals.requests,
         pauses: pace.pauses,
         ticks: pace.ticks,
         applied: totals.applied,
         already: totals.already,
         reports: desk.lane.reports().len(),
-    })
+    }
 }
 
 /// The outcome of a drain in memory, and how many writes the index applied.
-pub fn came_to(alloc: Global, desk: &mut Desk, wire: &mut LoopWire) -> Option<(Came, usize)>
+pub fn came_to(
+    rt: &impl Abort,
+    alloc: Global,
+    desk: &mut Desk,
+    wire: &mut LoopWire,
+) -> (Came, usize)
     requires { numbers wire.old.out ≡ out_of desk.old.lane.state }
 {
-    let came = drained(desk, wire)?;
-    Some((came, count_applied(alloc, wire.peer().index()).ok()?))
+    let came = drained(rt, desk, wire);
+    let applied = count_applied(alloc, wire.peer().index()).expect(rt, "memory");
+    (came, applied)
 }
 
 // The same for deletes of this many documents, if the reply to one number is lost.
-fn in_memory(alloc: Global, count: u64, lost: u64) -> Option<(Came, usize)> {
-    came_to(
-        alloc,
-        &mut numbered(alloc, count)?,
-        &mut looped(alloc, lost)?,
-    )
-}
-
-// The highest version in an index in memory after deletes of three documents, and how many documents it has.
-fn after_three(alloc: Global) -> Option<(Option<u64>, usize)> {
-    let mut wire = looped(alloc, 0)?;
-    drained(&mut numbered(alloc, 3)?, &mut wire)?;
-    Some((
-        wire.peer().index().highest(),
-        wire.peer().index().keys(alloc).ok()?.len(),
-    ))
-}
-
-// The outcome of deletes of three documents over streams with these bytes.
-fn over_http(alloc: Global, inputs: &[&[u8]]) -> Option<Came> {
-    let mut wire = wired(alloc, inputs, 1000, 0, 1)?;
-    let mut desk = numbered(alloc, 3)?;
-    drained(&mut desk, &mut wire)
+fn in_memory(rt: &impl Abort, alloc: Global, count: u64, lost: u64) -> (Came, usize) {
+    let mut desk = numbered(alloc, count).expect(rt, "a lane");
+    let mut wire = looped(rt, alloc, lost);
+    came_to(rt, alloc, &mut desk, &mut wire)
 }
 
 // Three deletes of three documents, whose first request's reply is lost: all three were applied by
@@ -100,17 +87,23 @@ const ALL_AT_ONCE: Came = Came {
 
 #[test]
 fn a_lost_reply_in_memory(rt: HostRuntime) {
-    assert!(rt; in_memory(rt.alloc(), 3, 1) == Some((LOST_ONCE, 3)));
+    assert!(rt; in_memory(&rt, rt.alloc(), 3, 1) == (LOST_ONCE, 3));
 }
 
+// The highest version in the index, and how many documents it has.
 #[test]
 fn three_deletes(rt: HostRuntime) {
-    assert!(rt; after_three(rt.alloc()) == Some((Some(3), 3)));
+    let mut desk = numbered(rt.alloc(), 3).expect(&rt, "a lane");
+    let mut wire = looped(&rt, rt.alloc(), 0);
+    let _ = drained(&rt, &mut desk, &mut wire);
+    let index = wire.peer().index();
+    assert!(rt; index.highest() == Some(3));
+    assert!(rt; index.keys(rt.alloc()).expect(&rt, "memory").len() == 3);
 }
 
 #[test]
 fn two_thousand_items(rt: HostRuntime) {
-    assert!(rt; in_memory(rt.alloc(), 2000, 0) == Some((ALL_AT_ONCE, 2000)));
+    assert!(rt; in_memory(&rt, rt.alloc(), 2000, 0) == (ALL_AT_ONCE, 2000));
 }
 
 const CONFLICTS: &[u8] =
@@ -118,5 +111,7 @@ const CONFLICTS: &[u8] =
 
 #[test]
 fn a_lost_reply_over_http(rt: HostRuntime) {
-    assert!(rt; over_http(rt.alloc(), &[b"", CONFLICTS]) == Some(LOST_ONCE));
+    let mut wire = wired(rt.alloc(), &[b"", CONFLICTS], 1000, 0, 1).expect(&rt, "memory");
+    let mut desk = numbered(rt.alloc(), 3).expect(&rt, "a lane");
+    assert!(rt; drained(&rt, &mut desk, &mut wire) == LOST_ONCE);
 }

@@ -5,7 +5,8 @@ use crate::drains::{Came, drained};
 use crate::streams::wired_failing;
 use relay_fixtures::desk::Desk;
 use relay_results::Cause;
-use std::alloc::{AllocError, Global};
+use std::alloc::Global;
+use std::process::Abort;
 
 // A reply that settles a delete of the document `1`, in chunks after an interim head, and in the
 // usual form.
@@ -66,18 +67,18 @@ fn sends(desk: &Desk) -> Option<u32> {
 
 // The outcome of a delete of the document `1` over streams with these bytes that move a few at a
 // time, of the first of which one call fails; 0 means none.
-fn ends(alloc: Global, inputs: &[&[u8]], piece: usize, fails_at: u64) -> Option<End> {
-    let mut wire = wired_failing(alloc, inputs, piece, fails_at)?;
-    let mut desk = numbered(alloc, 1)?;
-    let came = drained(&mut desk, &mut wire)?;
-    Some((came, sends(&desk)))
+fn ends(rt: &impl Abort, alloc: Global, inputs: &[&[u8]], piece: usize, fails_at: u64) -> End {
+    let mut wire = wired_failing(rt, alloc, inputs, piece, fails_at);
+    let mut desk = numbered(alloc, 1).expect(rt, "a lane");
+    let came = drained(rt, &mut desk, &mut wire);
+    (came, sends(&desk))
 }
 
 // Whether an operation with this single reply is applied at the second try, over another
 // connection, and one with no other reply is given up.
-fn is_refused(alloc: Global, reply: &[u8], piece: usize) -> bool {
-    ends(alloc, &[reply, USUAL], piece, 0) == Some(AGAIN)
-        && ends(alloc, &[reply, reply, reply], piece, 0) == Some(GIVEN_UP)
+fn is_refused(rt: &impl Abort, alloc: Global, reply: &[u8], piece: usize) -> bool {
+    ends(rt, alloc, &[reply, USUAL], piece, 0) == AGAIN
+        && ends(rt, alloc, &[reply, reply, reply], piece, 0) == GIVEN_UP
 }
 
 #[test]
@@ -85,30 +86,25 @@ fn a_reply_cut_anywhere(rt: HostRuntime) {
     for length in 0..CHUNKED.len() {
         for piece in [1, 1000] {
             assert!(rt;
-                is_refused(rt.alloc(), &CHUNKED[..length], piece),
+                is_refused(&rt, rt.alloc(), &CHUNKED[..length], piece),
                 "{length}"
             );
         }
     }
-    assert!(rt; ends(rt.alloc(), &[CHUNKED], 1, 0) == Some(AT_ONCE));
+    assert!(rt; ends(&rt, rt.alloc(), &[CHUNKED], 1, 0) == AT_ONCE);
 }
 
 // The first text, the second one repeated, and the third.
 type Row<'a> = (&'a [u8], &'a [u8], usize, &'a [u8]);
 
-fn repeated(alloc: Global, row: Row) -> Result<Vec<u8>, AllocError> {
-    let mut text = row.0.to_vec(alloc)?;
+// The reply of a row.
+fn repeated(rt: &impl Abort, alloc: Global, row: Row) -> Vec<u8> {
+    let mut text = row.0.to_vec(alloc).expect(rt, "memory");
     for _ in 0..row.2 {
-        text.extend_from_slice(row.1)?;
+        text.extend_from_slice(row.1).expect(rt, "memory");
     }
-    text.extend_from_slice(row.3)?;
-    Ok(text)
-}
-
-// Whether the reply of a row is refused.
-fn row_is_refused(alloc: Global, row: Row, piece: usize) -> Result<bool, AllocError> {
-    let reply = repeated(alloc, row)?;
-    Ok(is_refused(alloc, reply.as_slice(), piece))
+    text.extend_from_slice(row.3).expect(rt, "memory");
+    text
 }
 
 const REFUSED: &[Row] = &[
@@ -247,41 +243,43 @@ const REFUSED: &[Row] = &[
 #[test]
 fn replies_that_are_refused(rt: HostRuntime) {
     for row in REFUSED {
+        let reply = repeated(&rt, rt.alloc(), *row);
         for piece in [1, 1000] {
             assert!(rt;
-                row_is_refused(rt.alloc(), *row, piece) == Ok(true),
+                is_refused(&rt, rt.alloc(), reply.as_slice(), piece),
                 "{row:?}"
             );
         }
     }
 }
 
+// The start of a reply, up to a value that is nested.
+const NESTED: &[u8] =
+    b"HTTP/1.1 200 OK\r\n\r\n{\"items\":[{\"delete\":{\"_id\":\"1\",\"status\":200}}],\"x\":";
+
 // A reply whose JSON is nested this deep: arrays in an object.
-fn nested(alloc: Global, depth: usize) -> Result<Vec<u8>, AllocError> {
-    let mut text =
-        b"HTTP/1.1 200 OK\r\n\r\n{\"items\":[{\"delete\":{\"_id\":\"1\",\"status\":200}}],\"x\":".to_vec(
-            alloc,
-        )?;
+fn nested(rt: &impl Abort, alloc: Global, depth: usize) -> Vec<u8> {
+    let mut text = NESTED.to_vec(alloc).expect(rt, "memory");
     for _ in 1..depth {
-        text.push(b'[')?;
+        text.push(b'[').expect(rt, "memory");
     }
     for _ in 1..depth {
-        text.push(b']')?;
+        text.push(b']').expect(rt, "memory");
     }
-    text.push(b'}')?;
-    Ok(text)
+    text.push(b'}').expect(rt, "memory");
+    text
 }
 
 // The outcome of an operation with such a reply and the usual one.
-fn ends_nested(alloc: Global, depth: usize) -> Option<End> {
-    let reply = nested(alloc, depth).ok()?;
-    ends(alloc, &[reply.as_slice(), USUAL], 1000, 0)
+fn ends_nested(rt: &impl Abort, alloc: Global, depth: usize) -> End {
+    let reply = nested(rt, alloc, depth);
+    ends(rt, alloc, &[reply.as_slice(), USUAL], 1000, 0)
 }
 
 #[test]
 fn replies_that_are_nested(rt: HostRuntime) {
-    assert!(rt; ends_nested(rt.alloc(), 127) == Some(AT_ONCE));
-    assert!(rt; ends_nested(rt.alloc(), 128) == Some(AGAIN));
+    assert!(rt; ends_nested(&rt, rt.alloc(), 127) == AT_ONCE);
+    assert!(rt; ends_nested(&rt, rt.alloc(), 128) == AGAIN);
 }
 
 const ACCEPTED: &[&[u8]] = &[
@@ -297,7 +295,7 @@ const ACCEPTED: &[&[u8]] = &[
 fn replies_that_are_accepted(rt: HostRuntime) {
     for reply in ACCEPTED {
         for piece in [1, 1000] {
-            assert!(rt; ends(rt.alloc(), &[*reply], piece, 0) == Some(AT_ONCE));
+            assert!(rt; ends(&rt, rt.alloc(), &[*reply], piece, 0) == AT_ONCE);
         }
     }
 }
@@ -310,9 +308,9 @@ fn each_call_of_a_stream_fails_in_turn(rt: HostRuntime) {
     let calls = WRITES + (CHUNKED.len() as u64).div_ceil(7);
     for fails_at in 1..=calls {
         assert!(rt;
-            ends(rt.alloc(), &[CHUNKED, USUAL], 7, fails_at) == Some(AGAIN),
+            ends(&rt, rt.alloc(), &[CHUNKED, USUAL], 7, fails_at) == AGAIN,
             "{fails_at}"
         );
     }
-    assert!(rt; ends(rt.alloc(), &[CHUNKED], 7, calls + 1) == Some(AT_ONCE));
+    assert!(rt; ends(&rt, rt.alloc(), &[CHUNKED], 7, calls + 1) == AT_ONCE);
 }

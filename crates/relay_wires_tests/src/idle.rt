@@ -6,6 +6,7 @@ use crate::turns::{Turns, turned};
 use relay_fixtures::asking::{Told, asks};
 use relay_lane::{Loss, Wire};
 use std::alloc::Global;
+use std::process::Abort;
 
 // 40 bytes, as `BUSY`: a reply read in pieces of 8 or 20 bytes ends with a read.
 const GATE: &[u8] = b"HTTP/1.1 502 Gate\r\nContent-Length: 0\r\n\r\n";
@@ -19,14 +20,10 @@ const BUSY_AND_HALF: &[u8] =
 const BUSY_AND_ONE: &[u8] = b"HTTP/1.1 503 Busy\r\nContent-Length: 0\r\n\r\n\n";
 
 // The results of two deletes one after the other over streams with these turns.
-fn twice(alloc: Global, streams: &[Turns<'_>], piece: usize) -> (Told, Told) {
-    match turned(alloc, streams, piece, 1) {
-        Some(mut wire) => {
-            let first = asks(alloc, &mut wire, 1, "2", 2);
-            (first, asks(alloc, &mut wire, 2, "2", 2))
-        }
-        None => (Told::NotAsked, Told::NotAsked),
-    }
+fn twice(rt: &impl Abort, alloc: Global, streams: &[Turns<'_>], piece: usize) -> (Told, Told) {
+    let mut wire = turned(rt, alloc, streams, piece, 1);
+    let first = asks(alloc, &mut wire, 1, "2", 2);
+    (first, asks(alloc, &mut wire, 2, "2", 2))
 }
 
 const BUSY_THEN_GATE: (Told, Told) = (Told::Whole(503), Told::Whole(502));
@@ -54,7 +51,7 @@ fn bytes_that_nobody_asked_for(rt: HostRuntime) {
     for (streams, wanted) in STREAMS {
         for piece in PIECES {
             assert!(rt;
-                twice(rt.alloc(), *streams, piece) == *wanted,
+                twice(&rt, rt.alloc(), *streams, piece) == *wanted,
                 "{wanted:?} {piece}"
             );
         }
@@ -62,32 +59,21 @@ fn bytes_that_nobody_asked_for(rt: HostRuntime) {
 }
 
 // Sends two requests without writes, and receives the reply to the earlier one first.
-fn answers_both<W: Wire>(wire: &mut W) -> bool
+fn answers_both<W: Wire>(rt: &impl Abort, wire: &mut W)
     requires { W.out wire.old ≡ [] }
     ensures { W.out wire.new ≡ [] }
 {
-    if let Err(_) = wire.send(1, &[]) {
-        return false;
-    }
-    if let Err(_) = wire.send(2, &[]) {
-        let _ = wire.receive(1);
-        return false;
-    }
-    let earlier = wire.receive(1).is_ok();
-    wire.receive(2).is_ok() && earlier
+    wire.send(1, &[]).expect(rt, "the first is sent");
+    wire.send(2, &[]).expect(rt, "the second is sent");
+    assert!(rt; wire.receive(1).is_ok());
+    assert!(rt; wire.receive(2).is_ok());
 }
 
 // The result of a delete over streams with these turns, once two of them are free.
-fn after_two(alloc: Global, streams: &[Turns<'_>], piece: usize) -> Told {
-    match turned(alloc, streams, piece, 2) {
-        Some(mut wire) => {
-            if !answers_both(&mut wire) {
-                return Told::NotAsked;
-            }
-            asks(alloc, &mut wire, 3, "2", 2)
-        }
-        None => Told::NotAsked,
-    }
+fn after_two(rt: &impl Abort, alloc: Global, streams: &[Turns<'_>], piece: usize) -> Told {
+    let mut wire = turned(rt, alloc, streams, piece, 2);
+    answers_both(rt, &mut wire);
+    asks(alloc, &mut wire, 3, "2", 2)
 }
 
 const TWO_FREE: &[(&[Turns<'static>], Told)] = &[
@@ -109,7 +95,7 @@ fn the_next_free_one_or_a_dial(rt: HostRuntime) {
     for (streams, wanted) in TWO_FREE {
         for piece in PIECES {
             assert!(rt;
-                after_two(rt.alloc(), *streams, piece) == *wanted,
+                after_two(&rt, rt.alloc(), *streams, piece) == *wanted,
                 "{wanted:?} {piece}"
             );
         }

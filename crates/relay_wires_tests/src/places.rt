@@ -8,6 +8,7 @@ use relay_index::{Index, Script};
 use relay_lane::{Loss, Wire};
 use relay_loop::{LoopEnd, wire_to};
 use std::alloc::Global;
+use std::process::Abort;
 
 // Sends a request without writes.
 fn sends(wire: &mut Wired, number: u64) -> Result<(), Loss>
@@ -20,53 +21,33 @@ fn sends(wire: &mut Wired, number: u64) -> Result<(), Loss>
 }
 
 // The results of two requests that are sent before a reply is received, with this maximum.
-fn two_out(alloc: Global, most: u32) -> Option<[Result<(), Loss>; 2]> {
-    let inputs = [BUSY, BUSY];
-    let mut wire = wired(alloc, &inputs, 1000, 0, most)?;
-    if let Err(fault) = sends(&mut wire, 1) {
-        return Some([Err(fault), Err(fault)]);
+fn two_out(rt: &impl Abort, alloc: Global, most: u32) -> [Result<(), Loss>; 2] {
+    let mut wire = wired(alloc, &[BUSY, BUSY], 1000, 0, most).expect(rt, "memory");
+    match sends(&mut wire, 1) {
+        Ok(()) => [Ok(()), sends(&mut wire, 2)],
+        Err(fault) => [Err(fault), Err(fault)],
     }
-    Some([Ok(()), sends(&mut wire, 2)])
 }
 
-// Whether two outstanding requests are both answered, the later one first.
-fn answers_both<W: Wire>(wire: &mut W) -> bool
+// Two outstanding requests are both answered, the later one first.
+fn answers_both<W: Wire>(rt: &impl Abort, wire: &mut W)
     requires { W.out wire.old ≡ [] }
 {
-    if let Err(_) = wire.send(1, &[]) {
-        return false;
-    }
-    if let Err(_) = wire.send(2, &[]) {
-        return false;
-    }
-    let later = wire.receive(2).is_ok();
-    wire.receive(1).is_ok() && later
+    wire.send(1, &[]).expect(rt, "the first is sent");
+    wire.send(2, &[]).expect(rt, "the second is sent");
+    assert!(rt; wire.receive(2).is_ok());
+    assert!(rt; wire.receive(1).is_ok());
 }
 
-// The same over streams, with a maximum of two.
-fn answers_both_over_http(alloc: Global) -> bool {
-    match wired(alloc, &[BUSY, BUSY], 1000, 0, 2) {
-        Some(mut wire) => answers_both(&mut wire),
-        None => false,
-    }
-}
-
-// The same in memory.
-fn answers_both_in_memory(alloc: Global) -> bool {
-    match wire_to(
-        alloc,
-        LoopEnd::new(alloc, Index::new(alloc), Script::new(alloc)),
-        2,
-    ) {
-        Ok(mut wire) => answers_both(&mut wire),
-        Err(_) => false,
-    }
-}
-
+// Over streams, with a maximum of two, and in memory.
 #[test]
 fn the_later_one_first(rt: HostRuntime) {
-    assert!(rt; answers_both_over_http(rt.alloc()));
-    assert!(rt; answers_both_in_memory(rt.alloc()));
+    let alloc = rt.alloc();
+    let mut wire = wired(alloc, &[BUSY, BUSY], 1000, 0, 2).expect(&rt, "memory");
+    answers_both(&rt, &mut wire);
+    let end = LoopEnd::new(alloc, Index::new(alloc), Script::new(alloc));
+    let mut looped = wire_to(alloc, end, 2).expect(&rt, "memory");
+    answers_both(&rt, &mut looped);
 }
 
 #[test]
@@ -77,6 +58,6 @@ fn as_many_as_may_be(rt: HostRuntime) {
         (2, [Ok(()), Ok(())]),
     ];
     for (most, wanted) in rows {
-        assert!(rt; two_out(rt.alloc(), most) == Some(wanted));
+        assert!(rt; two_out(&rt, rt.alloc(), most) == wanted);
     }
 }

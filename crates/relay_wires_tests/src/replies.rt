@@ -7,14 +7,13 @@ use relay_http::HttpReply;
 use relay_lane::{Loss, WireReply};
 use relay_wires::told::tell;
 use std::alloc::Global;
+use std::process::Abort;
 
 // The result of a delete if these bytes are the reply.
-fn told_by(alloc: Global, bytes: &[u8]) -> Told {
+fn told_by(rt: &impl Abort, alloc: Global, bytes: &[u8]) -> Told {
     let inputs = [bytes];
-    match wired(alloc, &inputs, 1000, 0, 1) {
-        Some(mut wire) => asks(alloc, &mut wire, 1, "2", 2),
-        None => Told::NotAsked,
-    }
+    let mut wire = wired(alloc, &inputs, 1000, 0, 1).expect(rt, "memory");
+    asks(alloc, &mut wire, 1, "2", 2)
 }
 
 const REPLIES: &[(&[u8], Told)] = &[
@@ -86,20 +85,20 @@ const REPLIES: &[(&[u8], Told)] = &[
 #[test]
 fn replies(rt: HostRuntime) {
     for (bytes, wanted) in REPLIES {
-        assert!(rt; told_by(rt.alloc(), *bytes) == *wanted, "{wanted:?}");
+        assert!(rt; told_by(&rt, rt.alloc(), *bytes) == *wanted, "{wanted:?}");
     }
 }
 
-// The reason with which the status of a whole request is told. `None`: none, or allocation failed.
-fn reason_of(alloc: Global, status: u16, body: &[u8]) -> Option<Text> {
+// The reason with which the status of a whole request is told, if there is one.
+fn reason_of(rt: &impl Abort, alloc: Global, status: u16, body: &[u8]) -> Option<Text> {
     let reply = HttpReply {
         status,
-        body: body.to_vec(alloc).ok()?,
+        body: body.to_vec(alloc).expect(rt, "memory"),
         keep: true,
     };
     match tell(alloc, &reply) {
         Ok(WireReply::Whole(told, reason)) if told == status => reason,
-        _ => None,
+        _ => panic!(rt; "not told with its status"),
     }
 }
 
@@ -124,7 +123,7 @@ const REASONS: &[(u16, &[u8], &str)] = &[
 #[test]
 fn reasons(rt: HostRuntime) {
     for (status, body, wanted) in REASONS {
-        let reason = reason_of(rt.alloc(), *status, *body);
+        let reason = reason_of(&rt, rt.alloc(), *status, *body);
         let text = match &reason {
             Some(reason) => reason.as_str(),
             None => "",

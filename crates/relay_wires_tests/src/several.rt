@@ -1,17 +1,17 @@
 //! Several requests in flight over a wire in memory: what is sent and received, in which order.
-ghost use Rattle.std.specs.Prelude.{◌≡◌, [], IfSome};
-ghost use Rattle.relay_lane.specs.Out.{out_of};
+ghost use Rattle.std.specs.Prelude.{◌≡◌, []};
 ghost use Rattle.relay_wires.specs.Numbers.{numbers};
 
 use crate::desk::CONFIG;
 use crate::loops::looped;
 use relay_batch::Limits;
-use relay_fixtures::desk::{Desk, closes, filled};
+use relay_fixtures::desk::{closes, filled};
 use relay_fixtures::notes::NO_PAUSES;
 use relay_fixtures::watched::{Watch, Watched};
 use relay_lane::{RelayConfig, collect, drain, pump};
 use relay_loop::LoopWire;
 use std::alloc::Global;
+use std::process::Abort;
 
 // What a wire did: a request's number when it was sent, and a negative number when it was received.
 #[derive(Drop)]
@@ -55,20 +55,20 @@ const fn one_each(in_flight: u32) -> RelayConfig {
 }
 
 // Such a wire to an empty index that loses the reply to one number.
-fn wire_of(alloc: Global, lost: u64) -> Option<Noting>
-    ensures { IfSome result (λ w. numbers w.wire.out ≡ []) }
+fn wire_of(rt: &impl Abort, alloc: Global, lost: u64) -> Noting
+    ensures { numbers result.wire.out ≡ [] }
 {
-    Some(Watched {
-        wire: looped(alloc, lost)?,
+    Watched {
+        wire: looped(rt, alloc, lost),
         watch: Calls {
             notes: [0; 16],
             count: 0,
         },
-    })
+    }
 }
 
 // What was sent and received.
-#[derive(Clone, Copy, Debug, PartialEq, Eq)]
+#[derive(Clone, Copy)]
 struct Noted {
     notes: [i64; 16],
     // How many requests were sent by the call, or were still in flight.
@@ -77,48 +77,35 @@ struct Noted {
     pauses: u64,
 }
 
-fn pumps_over(desk: &mut Desk, wire: &mut Noting) -> Option<Noted>
-    requires { numbers wire.old.wire.out ≡ out_of desk.old.lane.state }
-{
+// A pump and a collect, with deletes of these documents.
+fn pumped(rt: &impl Abort, alloc: Global, in_flight: u32, ids: &[&str]) -> Noted {
+    let mut desk = filled(alloc, one_each(in_flight), ids, "").expect(rt, "memory");
+    let mut wire = wire_of(rt, alloc, 0);
     let mut pace = NO_PAUSES;
-    let sent = pump(&mut desk.lane, wire, &mut pace).ok()?;
-    let collected = collect(&mut desk.lane, wire, &mut pace);
-    Some(Noted {
+    let sent = pump(&mut desk.lane, &mut wire, &mut pace).expect(rt, "memory");
+    let collected = collect(&mut desk.lane, &mut wire, &mut pace);
+    Noted {
         notes: wire.watch.notes,
         first: sent,
         then: collected,
         pauses: 0,
-    })
-}
-
-// A pump and a collect, with deletes of these documents.
-fn pumped(alloc: Global, in_flight: u32, ids: &[&str]) -> Option<Noted> {
-    let mut desk = filled(alloc, one_each(in_flight), ids, "")?;
-    let mut wire = wire_of(alloc, 0)?;
-    pumps_over(&mut desk, &mut wire)
-}
-
-fn drains_over(desk: &mut Desk, wire: &mut Noting) -> Option<Noted>
-    requires { numbers wire.old.wire.out ≡ out_of desk.old.lane.state }
-{
-    let mut pace = NO_PAUSES;
-    if !closes(desk) || !desk.lane.closed() {
-        return None;
     }
-    drain(&mut desk.lane, wire, &mut pace).ok()?;
-    Some(Noted {
+}
+
+// A drain of deletes of these documents, with the reply to one number lost.
+fn drained(rt: &impl Abort, alloc: Global, in_flight: u32, ids: &[&str], lost: u64) -> Noted {
+    let mut desk = filled(alloc, one_each(in_flight), ids, "").expect(rt, "memory");
+    let mut wire = wire_of(rt, alloc, lost);
+    let mut pace = NO_PAUSES;
+    assert!(rt; closes(&mut desk));
+    assert!(rt; desk.lane.closed());
+    drain(&mut desk.lane, &mut wire, &mut pace).expect(rt, "memory");
+    Noted {
         notes: wire.watch.notes,
         first: desk.lane.totals().requests,
         then: desk.lane.flying() as u64,
         pauses: pace.pauses,
-    })
-}
-
-// A drain of deletes of these documents, with the reply to one number lost.
-fn drained(alloc: Global, in_flight: u32, ids: &[&str], lost: u64) -> Option<Noted> {
-    let mut desk = filled(alloc, one_each(in_flight), ids, "")?;
-    let mut wire = wire_of(alloc, lost)?;
-    drains_over(&mut desk, &mut wire)
+    }
 }
 
 // Whether these are the records, followed by 0.
@@ -164,35 +151,23 @@ const DRAINS: &[(u32, &[&str], u64, &[i64], u64, u64)] = &[
     (8, &["1", "1", "2"], 0, &[1, 2, -1, 3, -2, -3], 3, 0),
 ];
 
-fn pumps_as(alloc: Global, row: &(u32, &[&str], &[i64], u64, u64)) -> bool {
-    match pumped(alloc, row.0, row.1) {
-        Some(noted) => are(noted.notes, row.2) && noted.first == row.3 && noted.then == row.4,
-        None => false,
-    }
-}
-
 #[test]
 fn sends_while_a_place_is_free(rt: HostRuntime) {
-    for row in PUMPS {
-        assert!(rt; pumps_as(rt.alloc(), row));
-    }
-}
-
-fn drains_as(alloc: Global, row: &(u32, &[&str], u64, &[i64], u64, u64)) -> bool {
-    match drained(alloc, row.0, row.1, row.2) {
-        Some(noted) => {
-            are(noted.notes, row.3)
-                && noted.first == row.4
-                && noted.then == 0
-                && noted.pauses == row.5
-        }
-        None => false,
+    for (in_flight, ids, notes, sent, collected) in PUMPS {
+        let noted = pumped(&rt, rt.alloc(), *in_flight, *ids);
+        assert!(rt; are(noted.notes, *notes), "{notes:?}");
+        assert!(rt; noted.first == *sent, "{notes:?}");
+        assert!(rt; noted.then == *collected, "{notes:?}");
     }
 }
 
 #[test]
 fn answers_come_before_a_pause(rt: HostRuntime) {
-    for row in DRAINS {
-        assert!(rt; drains_as(rt.alloc(), row));
+    for (in_flight, ids, lost, notes, requests, pauses) in DRAINS {
+        let noted = drained(&rt, rt.alloc(), *in_flight, *ids, *lost);
+        assert!(rt; are(noted.notes, *notes), "{notes:?}");
+        assert!(rt; noted.first == *requests, "{notes:?}");
+        assert!(rt; noted.then == 0, "{notes:?}");
+        assert!(rt; noted.pauses == *pauses, "{notes:?}");
     }
 }

@@ -5,6 +5,7 @@ use relay_action::MemStream;
 use relay_http::is_host;
 use relay_wires::{Dial, DialFault, HttpWire, Unknown};
 use std::alloc::Global;
+use std::process::Abort;
 
 /// A reply after which the connection may be used again.
 pub const BUSY: &[u8] = b"HTTP/1.1 503 Busy\r\nContent-Length: 0\r\n\r\n";
@@ -116,17 +117,18 @@ pub fn wired<'a>(
 /// A wire to a host, with at most one request outstanding, over streams with these bytes that move
 /// a few at a time, of the first of which one call fails; 0 means none.
 pub fn wired_failing<'a>(
+    rt: &impl Abort,
     alloc: Global,
     inputs: &'a [&'a [u8]],
     piece: usize,
     first_fails_at: u64,
-) -> Option<Wired<'a>>
-    ensures { IfSome result (λ w. w.out ≡ []) }
+) -> Wired<'a>
+    ensures { result.out ≡ [] }
 {
     let streams = Streams {
         piece,
         first_fails_at,
         ..streams_of(alloc, inputs)
     };
-    wired_over(alloc, streams, 1)
+    wired_over(alloc, streams, 1).expect(rt, "memory")
 }

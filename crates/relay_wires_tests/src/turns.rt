@@ -1,10 +1,11 @@
 //! Streams that return a reply once a request was written, dialled one after another.
-ghost use Rattle.std.specs.Prelude.{◌≡◌, [], None, Ok, IfSome};
+ghost use Rattle.std.specs.Prelude.{◌≡◌, [], None, Ok};
 
 use relay_action::{ByteIn, ByteOut, ByteStream, StreamFailed};
 use relay_http::is_host;
 use relay_wires::{Dial, DialFault, HttpWire, Peek, Unknown};
 use std::alloc::Global;
+use std::process::Abort;
 
 /// What arrives on a stream: something after each request, and its end after the last.
 pub type Turns<'a> = &'a [&'a [u8]];
@@ -93,12 +94,13 @@ impl<'a> Dial<TurnStream<'a>> for TurnDial<'a> {
 
 /// A wire over streams with these turns, whose reads return a few bytes at a time.
 pub fn turned<'a>(
+    rt: &impl Abort,
     alloc: Global,
     streams: &'a [Turns<'a>],
     piece: usize,
     most: u32,
-) -> Option<HttpWire<TurnStream<'a>, TurnDial<'a>, Unknown>>
-    ensures { IfSome result (λ w. w.out ≡ []) }
+) -> HttpWire<TurnStream<'a>, TurnDial<'a>, Unknown>
+    ensures { result.out ≡ [] }
 {
     let dial = TurnDial {
         streams,
@@ -107,9 +109,7 @@ pub fn turned<'a>(
         failed: 0,
         dialled: 0,
     };
-    let host = format!(in alloc; "127.0.0.1:9200").ok()?;
-    if !is_host(host.as_str()) {
-        return None;
-    }
-    HttpWire::new(alloc, dial, Unknown, host, most).ok()
+    let host = format!(in alloc; "127.0.0.1:9200").expect(rt, "memory");
+    assert!(rt; is_host(host.as_str()));
+    HttpWire::new(alloc, dial, Unknown, host, most).expect(rt, "memory")
 }
