@@ -1,5 +1,5 @@
 //! Listeners and wires to them.
-ghost use Rattle.std.specs.Prelude.{◌≡◌, [], IfSome};
+ghost use Rattle.std.specs.Prelude.{◌≡◌, []};
 
 use relay_action::StdStream;
 use relay_http::is_host;
@@ -7,38 +7,34 @@ use relay_index::{Index, Script};
 use relay_net::{Sockets, TcpDial, TcpListen};
 use relay_stub::stub_serve;
 use relay_wires::{HttpWire, Unknown};
-use std::alloc::Global;
 use std::net::Net;
+use std::process::Abort;
 
-/// Serves this many connections with an index that refuses nothing, and returns whether they were
-/// served.
-pub fn serves_with<R: Net>(
-    alloc: Global,
+/// Serves this many connections with an index that refuses nothing.
+pub fn serves_with<R: Net + Abort + AllocGlobal>(
+    rt: &R,
     listener: &mut TcpListen<R>,
     requests: u64,
     index: &mut Index,
-) -> bool {
-    let mut script = Script::new(alloc);
-    stub_serve(alloc, listener, requests, index, &mut script).is_ok()
+) {
+    let mut script = Script::new(rt.alloc());
+    stub_serve(rt.alloc(), listener, requests, index, &mut script).expect(rt, "the connections");
 }
 
 /// The address of a listener as text.
-pub fn address_of<R: Net>(alloc: Global, listener: &TcpListen<R>) -> Option<String> {
-    let address = listener.local_addr().ok()?;
-    format!(in alloc; "{address}").ok()
+pub fn address_of<R: Net + Abort + AllocGlobal>(rt: &R, listener: &TcpListen<R>) -> String {
+    let address = listener.local_addr().expect(rt, "an address");
+    format!(in rt.alloc(); "{address}").expect(rt, "memory")
 }
 
 /// A wire to an address, with one outstanding request at a time.
-pub fn wired<R: Net + Copy>(
-    alloc: Global,
-    net: R,
+pub fn wired<R: Net + Abort + AllocGlobal + Copy>(
+    rt: R,
     address: String,
-) -> Option<HttpWire<StdStream<R::Stream>, TcpDial<Sockets<R>>, Unknown>>
-    ensures { IfSome result (λ w. w.out ≡ []) }
+) -> HttpWire<StdStream<R::Stream>, TcpDial<Sockets<R>>, Unknown>
+    ensures { result.out ≡ [] }
 {
-    let host = address.clone().ok()?;
-    if !is_host(host.as_str()) {
-        return None;
-    }
-    HttpWire::new(alloc, TcpDial::new(net, address), Unknown, host, 1).ok()
+    let host = address.clone().expect(&rt, "memory");
+    assert!(rt; is_host(host.as_str()));
+    HttpWire::new(rt.alloc(), TcpDial::new(rt, address), Unknown, host, 1).expect(&rt, "memory")
 }

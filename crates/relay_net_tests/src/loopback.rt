@@ -6,71 +6,48 @@ use relay_fixtures::asking::{Told, sends, told_by};
 use relay_index::Index;
 use relay_net::{TcpDial, TcpListen};
 use relay_wires::{Dial, Wire};
-use std::alloc::Global;
 use std::net::Net;
+use std::process::Abort;
 
 // The result of a delete over a wire to a listener. The request is small enough to wait in the
 // socket until the connection is accepted.
-fn exchange<R: Net, W: Wire>(alloc: Global, listener: &mut TcpListen<R>, wire: &mut W) -> Told
+fn exchange<R: Net + Abort + AllocGlobal, W: Wire>(
+    rt: &R,
+    listener: &mut TcpListen<R>,
+    wire: &mut W,
+) -> Told
     requires { W.out wire.old ≡ [] }
 {
-    if let Err(told) = sends(alloc, wire, 1, "2", 2) {
+    if let Err(told) = sends(rt.alloc(), wire, 1, "2", 2) {
         return told;
     }
-    if !serves_with(alloc, listener, 1, &mut Index::new(alloc)) {
-        return Told::NotAsked;
-    }
+    serves_with(rt, listener, 1, &mut Index::new(rt.alloc()));
     told_by(wire.receive(1))
-}
-
-// The same over sockets.
-fn asks<R: Net + Copy>(alloc: Global, net: R) -> Option<Told> {
-    let mut listener = TcpListen::bind(&net, "127.0.0.1:0").ok()?;
-    let address = address_of(alloc, &listener)?;
-    let mut wire = wired(alloc, net, address)?;
-    Some(exchange(alloc, &mut listener, &mut wire))
 }
 
 #[test]
 fn a_request_over_a_socket(rt: HostRuntime) {
-    assert!(rt; asks(rt.alloc(), rt) == Some(Told::Entries(1, 404)));
-}
-
-// Whether a connection to this address is made.
-fn dials<R: Net>(alloc: Global, net: &R, address: &str) -> Option<bool> {
-    let mut dial = TcpDial::new(net, address.to_string(alloc).ok()?);
-    Some(dial.dial().is_ok())
+    let mut listener = TcpListen::bind(&rt, "127.0.0.1:0").expect(&rt, "a port");
+    let mut wire = wired(rt, address_of(&rt, &listener));
+    assert!(rt; exchange(&rt, &mut listener, &mut wire) == Told::Entries(1, 404));
 }
 
 // Whether an address can be dialled, and listened on.
-fn around<R: Net>(alloc: Global, net: &R, address: &str) -> (Option<bool>, bool) {
-    let dialled = dials(alloc, net, address);
-    (dialled, TcpListen::bind(net, address).is_ok())
+fn around<R: Net + Abort + AllocGlobal>(rt: &R, address: &str) -> (bool, bool) {
+    let dialled = address.to_string(rt.alloc()).expect(rt, "memory");
+    let is_dialled = TcpDial::new(rt, dialled).dial().is_ok();
+    (is_dialled, TcpListen::bind(rt, address).is_ok())
 }
 
-// The same for the address of a listener while it listens.
-fn around_listener<R: Net>(alloc: Global, net: &R) -> Option<(String, (Option<bool>, bool))> {
-    let listener = TcpListen::bind(net, "localhost:0").ok()?;
-    let address = address_of(alloc, &listener)?;
-    let found = around(alloc, net, address.as_str());
-    Some((address, found))
-}
-
-// Whether the address of a listener can be dialled and not listened on while it listens, and the
-// other way round when it is gone.
-fn with_and_without<R: Net>(alloc: Global, net: &R) -> bool {
-    match around_listener(alloc, net) {
-        Some((address, found)) => {
-            found == (Some(true), false)
-                && around(alloc, net, address.as_str()) == (Some(false), true)
-        }
-        None => false,
-    }
-}
-
+// The address of a listener can be dialled and not listened on while it listens, and the other way
+// round when it is gone.
 #[test]
 fn with_and_without_a_listener(rt: HostRuntime) {
-    assert!(rt; with_and_without(rt.alloc(), &rt));
+    let listener = TcpListen::bind(&rt, "localhost:0").expect(&rt, "a port");
+    let address = address_of(&rt, &listener);
+    assert!(rt; around(&rt, address.as_str()) == (true, false));
+    drop(listener);
+    assert!(rt; around(&rt, address.as_str()) == (false, true));
 }
 
 const NO_ADDRESSES: &[&str] = &[
@@ -85,9 +62,6 @@ const NO_ADDRESSES: &[&str] = &[
 #[test]
 fn no_addresses(rt: HostRuntime) {
     for address in NO_ADDRESSES {
-        assert!(rt;
-            around(rt.alloc(), &rt, *address) == (Some(false), false),
-            "{address}"
-        );
+        assert!(rt; around(&rt, *address) == (false, false), "{address}");
     }
 }

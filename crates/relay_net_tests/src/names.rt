@@ -4,9 +4,9 @@ ghost use Rattle.std.specs.Prelude.{None};
 
 use relay_net::{Reach, TcpDial};
 use relay_wires::{Dial, DialFault};
-use std::alloc::Global;
 use std::io::ErrorKind;
 use std::net::{HostAddrs, Ipv4Addr, SocketAddr};
+use std::process::Abort;
 use std::time::Duration;
 
 // A network in which each name has addresses with the ports 1, 2 and so on.
@@ -56,17 +56,21 @@ impl Reach for &mut Named {
 }
 
 // The fault of a dial with this limit, and the ports that it tried.
-fn dials(alloc: Global, network: &mut Named, limit: u32) -> Option<(Option<DialFault>, u64)> {
+fn dials(
+    rt: &(impl Abort + AllocGlobal),
+    mut network: Named,
+    limit: u32,
+) -> (Option<DialFault>, u64) {
     network.limit = match limit {
         0 => None,
         _ => Some(Duration::from_secs(limit as u64)),
     };
-    let name = "a name:1".to_string(alloc).ok()?;
-    let fault = TcpDial::over(&mut *network, name)
+    let name = "a name:1".to_string(rt.alloc()).expect(rt, "memory");
+    let fault = TcpDial::over(&mut network, name)
         .with_timeout(limit)
         .dial()
         .err();
-    Some((fault, network.tried))
+    (fault, network.tried)
 }
 
 const REFUSED: ErrorKind = ErrorKind::ConnectionRefused;
@@ -132,7 +136,7 @@ const ROWS: &[(
 fn addresses_in_turn(rt: HostRuntime) {
     for (count, unknown, accepts, others, last, wanted) in ROWS {
         for limit in [0, 5] {
-            let mut network = Named {
+            let network = Named {
                 count: *count,
                 unknown: *unknown,
                 accepts: *accepts,
@@ -141,11 +145,8 @@ fn addresses_in_turn(rt: HostRuntime) {
                 limit: None,
                 tried: 0,
             };
-            let found = dials(rt.alloc(), &mut network, limit);
-            assert!(rt;
-                found == Some(*wanted),
-                "{count} addresses, {accepts} accepts"
-            );
+            let found = dials(&rt, network, limit);
+            assert!(rt; found == *wanted, "{count} addresses, {accepts} accepts");
         }
     }
 }

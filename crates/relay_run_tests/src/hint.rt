@@ -2,7 +2,7 @@
 use relay_action::{DocKey, MemStream, OpName};
 use relay_core::{Cause, Report};
 use relay_run::hint::say_hint;
-use std::alloc::Global;
+use std::process::Abort;
 
 // A report of a conflict with this stored version, or of a request that was refused.
 #[derive(Clone, Copy)]
@@ -29,32 +29,28 @@ fn cause_of(row: Row) -> Cause {
     }
 }
 
-fn report_of(alloc: Global, row: Row) -> Option<Report> {
-    Some(Report {
+fn report_of(rt: &(impl Abort + AllocGlobal), row: Row) -> Report {
+    Report {
         name: OpName {
             epoch: 1,
             producer: 0,
             number: 1,
         },
-        key: DocKey::new(alloc, "books", "emma").ok()?,
+        key: DocKey::new(rt.alloc(), "books", "emma").expect(rt, "a key"),
         cause: cause_of(row),
-    })
-}
-
-fn reports_of(alloc: Global, rows: &[Row]) -> Option<Vec<Report>> {
-    let mut reports = Vec::new(alloc);
-    for row in rows {
-        reports.push(report_of(alloc, *row)?).ok()?;
     }
-    Some(reports)
 }
 
-// What is said of these reports in epoch 1.
-fn says(alloc: Global, rows: &[Row], wanted: &[u8]) -> Option<bool> {
-    let reports = reports_of(alloc, rows)?;
-    let mut err = MemStream::new(alloc, Vec::new(alloc), 1_000, 100, 0).ok()?;
-    say_hint(alloc, &reports, 1, &mut err).ok()?;
-    Some(err.written() == wanted)
+// Whether this is said of the reports of these rows in epoch 1.
+fn says(rt: &(impl Abort + AllocGlobal), rows: &[Row], wanted: &[u8]) -> bool {
+    let mut reports = Vec::new(rt.alloc());
+    for row in rows {
+        reports.push(report_of(rt, *row)).expect(rt, "memory");
+    }
+    let none = Vec::new(rt.alloc());
+    let mut err = MemStream::new(rt.alloc(), none, 1_000, 100, 0).expect(rt, "memory");
+    say_hint(rt.alloc(), &reports, 1, &mut err).expect(rt, "memory");
+    err.written() == wanted
 }
 
 const NOTHING: &[u8] = b"";
@@ -99,6 +95,6 @@ const ROWS: &[(&[Row], &[u8])] = &[
 #[test]
 fn hints(rt: HostRuntime) {
     for (rows, wanted) in ROWS {
-        assert!(rt; says(rt.alloc(), *rows, *wanted) == Some(true));
+        assert!(rt; says(&rt, *rows, *wanted));
     }
 }

@@ -1,5 +1,5 @@
 //! Two files to the stand-in server in its own thread.
-use relay_action::{DocKey, MemStream};
+use relay_action::{DocKey, MemStream, Write};
 use relay_fixtures::applied::stores;
 use relay_fixtures::config;
 use relay_fixtures::config::LIMITS;
@@ -11,13 +11,9 @@ use relay_run::options::RunOptions;
 use relay_run::run::{Limits, RelayConfig};
 use relay_stub::stub_serve;
 use relay_words::Exit;
-use std::alloc::Global;
-use std::net::{Net, TcpListener, TcpStream};
+use std::net::Net;
+use std::process::Abort;
 use std::rt::Files;
-use std::sync::Wait;
-use std::test::Fail;
-use std::thread::Threads;
-use std::time::Clock;
 use std::{fs, thread};
 
 // Operations of a file, and its documents. Each document gets ten operations.
@@ -39,73 +35,79 @@ pub const CONFIG: RelayConfig = RelayConfig {
 };
 
 // The text of an operation: it stores its own number.
-fn operation(alloc: Global, producer: u64, number: u64) -> Option<String> {
+fn operation(rt: &(impl Abort + AllocGlobal), producer: u64, number: u64) -> String {
     let document = number % DOCUMENTS;
-    format!(in alloc;
+    format!(in rt.alloc();
         "{{\"index\":{{\"_index\":\"books\",\"_id\":\"{producer}-{document}\"}}}}\n{number}\n"
-    ).ok()
+    ).expect(rt, "memory")
 }
 
 // The text of a producer's file.
-fn file_text(alloc: Global, producer: u64) -> Option<String> {
-    let mut text = String::new(alloc);
+fn file_text(rt: &(impl Abort + AllocGlobal), producer: u64) -> String {
+    let mut text = String::new(rt.alloc());
     for number in 0..OPERATIONS {
-        text.push_str(operation(alloc, producer, number)?.as_str())
-            .ok()?;
+        text.push_str(operation(rt, producer, number).as_str())
+            .expect(rt, "memory");
     }
-    Some(text)
+    text
 }
 
 // Writes the file of a producer, and returns its name.
-fn write_file<R: Files>(rt: &R, alloc: Global, producer: u64) -> Option<String> {
-    let name = format!(in alloc; "operations-{producer}").ok()?;
-    let text = file_text(alloc, producer)?;
-    fs::write(rt, name.as_str(), text.as_str()).ok()?;
-    Some(name)
+fn write_file<R: Files + Abort + AllocGlobal>(rt: &R, producer: u64) -> String {
+    let name = format!(in rt.alloc(); "operations-{producer}").expect(rt, "memory");
+    let text = file_text(rt, producer);
+    fs::write(rt, name.as_str(), text.as_str()).expect(rt, "a file");
+    name
+}
+
+// Whether the write at this place stores this number.
+fn has_at(rt: &(impl Abort + AllocGlobal), applied: &[Write], place: u64, number: u64) -> bool {
+    let text = format!(in rt.alloc(); "{number}").expect(rt, "memory");
+    stores(
+        applied.get(place as usize).expect(rt, "a write"),
+        text.as_str(),
+    )
 }
 
 // Whether an index applied to this document of a producer its ten operations, each once and in order.
-fn is_as_put(alloc: Global, index: &Index, producer: u8, document: u8) -> Option<bool> {
-    let id = format!(in alloc; "{producer}-{document}").ok()?;
-    let key = DocKey::new(alloc, "books", id.as_str()).ok()?;
+fn is_as_put(rt: &(impl Abort + AllocGlobal), index: &Index, producer: u8, document: u8) -> bool {
+    let id = format!(in rt.alloc(); "{producer}-{document}").expect(rt, "memory");
+    let key = DocKey::new(rt.alloc(), "books", id.as_str()).expect(rt, "a key");
     let applied = index.applied(&key);
+    let mut good = applied.len() == (OPERATIONS / DOCUMENTS) as usize;
     for place in 0..OPERATIONS / DOCUMENTS {
         let number = place * DOCUMENTS + u64::from(document);
-        let text = format!(in alloc; "{number}").ok()?;
-        match applied.get(place as usize) {
-            Some(write) if stores(write, text.as_str()) => {}
-            _ => return Some(false),
-        }
+        good = good && has_at(rt, applied, place, number);
     }
-    Some(applied.len() == (OPERATIONS / DOCUMENTS) as usize)
+    good
 }
 
 // The same for all documents of both producers.
-fn all_as_put(alloc: Global, index: &Index) -> Option<bool> {
+fn all_as_put(rt: &(impl Abort + AllocGlobal), index: &Index) -> bool {
+    let mut good = true;
     for producer in 0..2u8 {
         for document in 0..DOCUMENTS as u8 {
-            if !is_as_put(alloc, index, producer, document)? {
-                return Some(false);
-            }
+            good = good && is_as_put(rt, index, producer, document);
         }
     }
-    Some(true)
+    good
 }
 
 // Serves this many connections, and returns whether what was applied is what was put.
-fn serves<R: Net>(alloc: Global, mut listener: TcpListen<R>, requests: u64) -> Option<bool> {
-    let mut index = Index::new(alloc);
-    let mut script = Script::new(alloc);
-    stub_serve(alloc, &mut listener, requests, &mut index, &mut script).ok()?;
-    all_as_put(alloc, &index)
+fn serves<R: Net + Abort + AllocGlobal>(rt: &R, mut listener: TcpListen<R>, requests: u64) -> bool {
+    let mut index = Index::new(rt.alloc());
+    let mut script = Script::new(rt.alloc());
+    let served = stub_serve(rt.alloc(), &mut listener, requests, &mut index, &mut script);
+    served.expect(rt, "the connections");
+    all_as_put(rt, &index)
 }
 
 // The options of a run that writes both files to this address.
-fn options<R: Files>(rt: &R, alloc: Global, to: String) -> Option<RunOptions> {
-    let mut files = Vec::new(alloc);
-    files.push(write_file(rt, alloc, 0)?).ok()?;
-    files.push(write_file(rt, alloc, 1)?).ok()?;
-    Some(RunOptions {
+fn options<R: Files + Abort + AllocGlobal>(rt: &R, to: String) -> RunOptions {
+    let mut files = Vec::new(rt.alloc());
+    files.push(write_file(rt, 0)).expect(rt, "memory");
+    files.push(write_file(rt, 1)).expect(rt, "memory");
+    RunOptions {
         files,
         to,
         index: None,
@@ -119,56 +121,35 @@ fn options<R: Files>(rt: &R, alloc: Global, to: String) -> Option<RunOptions> {
         skip_invalid: None,
         progress: false,
         log: Log::None,
-    })
+    }
+}
+
+fn remove_all<R: Files + Abort>(rt: &R, files: &[String]) {
+    for file in files {
+        fs::remove_file(rt, file.as_str()).expect(rt, "a file");
+    }
 }
 
 // A stream for what is printed.
-fn printed(alloc: Global) -> Option<MemStream> {
-    MemStream::new(alloc, Vec::new(alloc), 1000, 1000, 0).ok()
+fn printed(rt: &(impl Abort + AllocGlobal)) -> MemStream {
+    MemStream::new(rt.alloc(), Vec::new(rt.alloc()), 1000, 1000, 0).expect(rt, "memory")
 }
 
-// Whether the files are written as expected: each operation once, and without a message.
-fn writes_all<R>(rt: R, host: HostRuntime, alloc: Global, to: String) -> Option<bool>
-where
-    R: Files + Threads + Wait + Clock + Copy + Send + 'static,
-{
-    let options = options(&rt, alloc, to)?;
-    let mut out = printed(alloc)?;
-    let mut err = printed(alloc)?;
-    let exit = run_files(rt, host, &options, &mut out, &mut err);
-    for file in &options.files {
-        fs::remove_file(&rt, file.as_str()).ok()?;
-    }
-    Some(
-        exit == Exit::Done
-            && out.written() == b"applied 200 already 0 reported 0\n".as_slice()
-            && err.written().is_empty(),
-    )
-}
-
-// Whether both ends report that everything was written, with one operation per request.
-fn writes_beside_server<R>(rt: R, host: HostRuntime, alloc: Global) -> Option<(bool, bool)>
-where
-    R: Files
-        + Net<Listener = TcpListener, Stream = TcpStream>
-        + Threads
-        + Wait
-        + Clock
-        + Copy
-        + Send
-        + 'static,
-{
-    let listener = TcpListen::bind(&rt, "127.0.0.1:0").ok()?;
-    let address = listener.local_addr().ok()?;
-    let to = format!(in alloc; "{address}").ok()?;
-    let server = thread::spawn(&rt, move || serves(alloc, listener, 2 * OPERATIONS)).ok()?;
-    let written = writes_all(rt, host, alloc, to)?;
-    Some((written, server.join(&rt)?))
-}
-
+// Both ends report that everything was written, with one operation per request: each operation once,
+// and without a message.
 #[test]
-fn two_files_beside_the_server(rt: HostRuntime) -> Result<(), Fail> {
-    let alloc = rt.alloc();
-    assert!(rt; writes_beside_server(rt, rt, alloc) == Some((true, true)));
-    Ok(())
+fn two_files_beside_the_server(rt: HostRuntime) {
+    let listener = TcpListen::bind(&rt, "127.0.0.1:0").expect(&rt, "a port");
+    let address = listener.local_addr().expect(&rt, "an address");
+    let to = format!(in rt.alloc(); "{address}").expect(&rt, "memory");
+    let spawned = thread::spawn(&rt, move || serves(&rt, listener, 2 * OPERATIONS));
+    let server = spawned.expect(&rt, "a thread");
+    let options = options(&rt, to);
+    let (mut out, mut err) = (printed(&rt), printed(&rt));
+    let exit = run_files(rt, rt, &options, &mut out, &mut err);
+    remove_all(&rt, &options.files);
+    assert!(rt; exit == Exit::Done);
+    assert!(rt; out.written() == b"applied 200 already 0 reported 0\n".as_slice());
+    assert!(rt; err.written().is_empty());
+    assert!(rt; server.join(&rt));
 }

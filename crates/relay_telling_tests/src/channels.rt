@@ -4,7 +4,7 @@ use relay_lane::{Cause, Report, Success};
 use relay_receipts::{Notice, ReceiptTake};
 use relay_telling::{Ending, LaneTells, telling};
 use relay_threads::Tell;
-use std::alloc::Global;
+use std::process::Abort;
 use std::sync::Wait;
 
 fn name_of(producer: u32, number: u64) -> OpName {
@@ -23,15 +23,15 @@ fn success_of(producer: u32, number: u64) -> Success {
     }
 }
 
-fn report_of(alloc: Global, producer: u32, number: u64) -> Option<Report> {
-    Some(Report {
+fn report_of(rt: &(impl Abort + AllocGlobal), producer: u32, number: u64) -> Report {
+    Report {
         name: name_of(producer, number),
-        key: DocKey::new(alloc, "books", "emma").ok()?,
+        key: DocKey::new(rt.alloc(), "books", "emma").expect(rt, "a key"),
         cause: Cause::Request {
             status: 401,
             reason: None,
         },
-    })
+    }
 }
 
 // A notice as its lane and the number of its operation, which is 0 if the lane tells no more, and
@@ -57,32 +57,20 @@ fn hears<R: Wait>(rt: &R, take: &mut ReceiptTake<Ending>, wanted: &[(u32, u64)])
 
 // Tells of the operation 1 of producer 0 and 2 of producer 1 as applied, of 3 of producer 1 as
 // reported, and of one of a producer that has no channel.
-fn tell_some<R: Wait>(rt: &R, alloc: Global, lane: &mut LaneTells) -> Option<()> {
+fn tell_some<R: Wait + Abort + AllocGlobal>(rt: &R, lane: &mut LaneTells) {
     lane.applied(rt, &[success_of(0, 1), success_of(1, 2), success_of(2, 9)]);
-    let report = report_of(alloc, 1, 3)?;
-    lane.reported(rt, &report).ok()
+    let report = report_of(rt, 1, 3);
+    lane.reported(rt, &report).expect(rt, "memory");
 }
 
-// Whether each producer hears what a lane tells it, and from another lane that it tells no more.
-fn are_told<R: Wait>(
-    rt: &R,
-    alloc: Global,
-    tells: &mut [LaneTells],
-    takes: &mut [ReceiptTake<Ending>],
-) -> Option<bool> {
-    tell_some(rt, alloc, tells.get_mut(1)?)?;
-    tells.get_mut(0)?.ended(rt);
-    let first = hears(rt, takes.get_mut(0)?, &[(1, 1), (0, 0)]);
-    let second = hears(rt, takes.get_mut(1)?, &[(1, 2), (1, 103), (0, 0)]);
-    Some(first && second)
-}
-
-fn tells_producers<R: Wait>(rt: &R, alloc: Global) -> Option<bool> {
-    let (mut tells, mut takes) = telling(alloc, 2, 2, 4).ok()?;
-    are_told(rt, alloc, &mut tells, &mut takes)
-}
-
+// Each producer hears what a lane tells it, and from another lane that it tells no more.
 #[test]
 fn producers_are_told(rt: HostRuntime) {
-    assert!(rt; tells_producers(&rt, rt.alloc()) == Some(true));
+    let (mut tells, mut takes) = telling(rt.alloc(), 2, 2, 4).expect(&rt, "memory");
+    tell_some(&rt, tells.get_mut(1).expect(&rt, "a lane"));
+    tells.get_mut(0).expect(&rt, "a lane").ended(&rt);
+    let first = takes.get_mut(0).expect(&rt, "a producer");
+    assert!(rt; hears(&rt, first, &[(1, 1), (0, 0)]));
+    let second = takes.get_mut(1).expect(&rt, "a producer");
+    assert!(rt; hears(&rt, second, &[(1, 2), (1, 103), (0, 0)]));
 }

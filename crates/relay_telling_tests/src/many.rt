@@ -12,7 +12,7 @@ use relay_lane::RelayConfig;
 use relay_producer::{Control, Receipt};
 use relay_receipts::{Notice, ReceiptTake, WindowedProducer};
 use relay_telling::Ending;
-use std::alloc::Global;
+use std::process::Abort;
 use std::sync::Wait;
 use std::thread;
 use std::thread::Threads;
@@ -64,54 +64,57 @@ struct Heard {
     lasts: u32,
 }
 
-fn nothing_heard(alloc: Global) -> Option<Vec<Heard>> {
-    let mut all = Vec::new(alloc);
+fn nothing_heard(rt: &(impl Abort + AllocGlobal)) -> Vec<Heard> {
+    let mut all = Vec::new(rt.alloc());
     for producer in 0..PRODUCERS {
-        all.push(Heard {
+        let heard = Heard {
             producer,
-            put: Vec::new(alloc),
-            told: Vec::new(alloc),
+            put: Vec::new(rt.alloc()),
+            told: Vec::new(rt.alloc()),
             lasts: 0,
-        })
-        .ok()?;
+        };
+        all.push(heard).expect(rt, "memory");
     }
-    Some(all)
+    all
 }
 
 // The document of the next operation: one of its own, or one of five in turn.
-fn next_key(alloc: Global, heard: &Heard, loses: bool) -> Option<DocKey> {
+fn next_key(rt: &(impl Abort + AllocGlobal), heard: &Heard, loses: bool) -> DocKey {
     let put = heard.put.len() as u64;
     let document = if loses { put % DOCUMENTS } else { put };
-    key_of(alloc, heard.producer, document)
+    key_of(rt, heard.producer, document)
 }
 
-fn note(heard: &mut Heard, notice: &Notice<Ending>) -> Option<()> {
+fn note(rt: &impl Abort, heard: &mut Heard, notice: &Notice<Ending>) {
     let Some(ending) = &notice.told else {
         heard.lasts = heard.lasts.saturating_add(1);
-        return Some(());
+        return;
     };
     let receipt = Receipt {
         name: ending.name(),
         lane: notice.lane,
     };
     let reported = matches!(ending, Ending::Reported(_));
-    heard.told.push(Told { receipt, reported }).ok()
+    heard
+        .told
+        .push(Told { receipt, reported })
+        .expect(rt, "memory");
 }
 
 // Takes a receipt. The control ticks until there is one: the lanes wait for more operations, and
 // pause after a lost reply, by their ticks.
-fn take_one<R: Wait>(
+fn take_one<R: Wait + Abort>(
     rt: &R,
     producer: &mut WindowedProducer<Ending>,
     control: &mut Control,
-) -> Option<Notice<Ending>>
+) -> Notice<Ending>
     ensures producer { producer.new.producer ≡ producer.old.producer }
     ensures control { identities (open_puts control.new.ends)
         ≡ identities (open_puts control.old.ends) }
 {
     for _ in rt.forever() {
-        if let Some(notice) = producer.try_take(rt).ok()? {
-            return Some(notice);
+        if let Some(notice) = producer.try_take(rt).expect(rt, "a lane that tells") {
+            return notice;
         }
         let _ = control.tick(rt);
         thread::yield_now();
@@ -120,14 +123,13 @@ fn take_one<R: Wait>(
 }
 
 // Puts as many operations as the window has; with a full window it takes a receipt first.
-fn put_some<R: Wait>(
+fn put_some<R: Wait + Abort + AllocGlobal>(
     rt: &R,
-    alloc: Global,
     producer: &mut WindowedProducer<Ending>,
     control: &mut Control,
     heard: &mut Heard,
     loses: bool,
-) -> Option<()>
+)
     ensures producer { identities (open_puts producer.new.producer.ends)
         ≡ identities (open_puts producer.old.producer.ends) }
     ensures control { identities (open_puts control.new.ends)
@@ -135,63 +137,50 @@ fn put_some<R: Wait>(
 {
     for _ in 0..WINDOW {
         if producer.pending() == WINDOW {
-            note(heard, &take_one(rt, producer, control)?)?;
+            note(rt, heard, &take_one(rt, producer, control));
         }
-        let key = next_key(alloc, heard, loses)?;
-        let receipt = producer.put(rt, key, Action::delete()).ok()?;
-        heard.put.push(receipt).ok()?;
+        let key = next_key(rt, heard, loses);
+        let receipt = producer.put(rt, key, Action::delete()).expect(rt, "a put");
+        heard.put.push(receipt).expect(rt, "memory");
     }
-    Some(())
 }
 
 // Each producer puts its operations, as many in turn as its window has.
-fn put_all<R: Wait>(
+fn put_all<R: Wait + Abort + AllocGlobal>(
     rt: &R,
-    alloc: Global,
     producers: &mut Vec<WindowedProducer<Ending>>,
     control: &mut Control,
     all: &mut Vec<Heard>,
     loses: bool,
-) -> Option<()>
+)
     ensures producers { open_names producers.new.items ≡ open_names producers.old.items }
     ensures control { identities (open_puts control.new.ends)
         ≡ identities (open_puts control.old.ends) }
 {
     for _ in 0..COUNT / WINDOW {
         for p in 0..producers.len() {
-            put_some(
-                rt,
-                alloc,
-                &mut producers[p],
-                control,
-                all.get_mut(p)?,
-                loses,
-            )?;
+            let heard = all.get_mut(p).expect(rt, "a producer");
+            put_some(rt, &mut producers[p], control, heard, loses);
         }
     }
-    Some(())
 }
 
 // Takes what is still queued: at most the window, and a last notice of each lane.
-fn take_rest<R: Wait>(rt: &R, take: &mut ReceiptTake<Ending>, heard: &mut Heard) -> Option<()> {
+fn take_rest<R: Wait + Abort>(rt: &R, take: &mut ReceiptTake<Ending>, heard: &mut Heard) {
     for _ in 0..=WINDOW + LANES {
         let Ok(notice) = take.take(rt) else {
-            return Some(());
+            return;
         };
-        note(heard, &notice)?;
+        note(rt, heard, &notice);
     }
-    None
+    panic!(rt; "it is told more")
 }
 
-fn take_all<R: Wait>(
-    rt: &R,
-    mut takes: Vec<ReceiptTake<Ending>>,
-    all: &mut Vec<Heard>,
-) -> Option<()> {
+fn take_all<R: Wait + Abort>(rt: &R, takes: &mut Vec<ReceiptTake<Ending>>, all: &mut Vec<Heard>) {
     for p in 0..takes.len() {
-        take_rest(rt, &mut takes[p], all.get_mut(p)?)?;
+        let heard = all.get_mut(p).expect(rt, "a producer");
+        take_rest(rt, &mut takes[p], heard);
     }
-    Some(())
 }
 
 // Whether a producer was told once of each of its operations by the lane of its receipt, of those
@@ -239,23 +228,25 @@ fn are_told(all: &[Heard], loses: bool) -> bool {
 
 // A relay from start to finish. The lanes end before what they tell last is taken. Whether each
 // producer was told of its operations, and how many the lanes took.
-fn run_many<R>(rt: R, alloc: Global, loses: bool) -> Option<(bool, u64)>
+fn run_many<R>(rt: R, loses: bool) -> (bool, u64)
 where
-    R: Threads + Wait + Copy + Send + 'static,
+    R: Threads + Wait + Abort + AllocGlobal + Copy + Send + 'static,
 {
     let way = if loses { Way::LosesEach(5) } else { Way::Runs };
     let ways = [way, way, way, way, way, way, way, Way::Whole(400)];
-    let mut all = nothing_heard(alloc)?;
-    let (relay, mut producers, mut control) = start(rt, alloc, MANY, &ways, WINDOW)?;
-    let put = put_all(&rt, alloc, &mut producers, &mut control, &mut all, loses).is_some();
-    let (summary, takes) = finish(&rt, alloc, relay, producers, control)?;
-    let taken = take_all(&rt, takes, &mut all).is_some();
-    Some((put && taken && are_told(&all, loses), count_taken(&summary)))
+    let mut all = nothing_heard(&rt);
+    let started = start(rt, rt.alloc(), MANY, &ways, WINDOW);
+    let (relay, mut producers, mut control) = started.expect(&rt, "a relay");
+    put_all(&rt, &mut producers, &mut control, &mut all, loses);
+    let finished = finish(&rt, rt.alloc(), relay, producers, control);
+    let (summary, mut takes) = finished.expect(&rt, "an end");
+    take_all(&rt, &mut takes, &mut all);
+    (are_told(&all, loses), count_taken(&summary))
 }
 
 #[test]
 fn many_are_told(rt: HostRuntime) {
     for loses in [false, true] {
-        assert!(rt; run_many(rt, rt.alloc(), loses) == Some((true, 256 * 20)));
+        assert!(rt; run_many(rt, loses) == (true, 256 * 20));
     }
 }

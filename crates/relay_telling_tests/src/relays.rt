@@ -10,13 +10,13 @@ ghost use Rattle.relay_telling_tests.specs.Handles.{names_from};
 
 use relay_action::DocKey;
 use relay_fixtures::index_wire::{IndexWire, Way, wire_of};
-use relay_fixtures::keys;
 use relay_lane::{Pace, RelayConfig};
 use relay_producer::{ClosedProducer, Control, Producer};
 use relay_receipts::{ReceiptTake, WindowedProducer};
 use relay_telling::{Ending, LaneTells, telling};
 use relay_threads::{Relay, Summary};
 use std::alloc::{AllocError, Global};
+use std::process::Abort;
 use std::sync::Wait;
 use std::thread::Threads;
 
@@ -41,9 +41,9 @@ impl Pace for AtOnce {
 }
 
 /// The document of a producer under this number.
-pub fn key_of(alloc: Global, producer: u32, document: u64) -> Option<DocKey> {
-    let id = format!(in alloc; "{producer}-{document}").ok()?;
-    keys::key_of(alloc, "books", id.as_str())
+pub fn key_of(rt: &(impl Abort + AllocGlobal), producer: u32, document: u64) -> DocKey {
+    let id = format!(in rt.alloc(); "{producer}-{document}").expect(rt, "memory");
+    DocKey::new(rt.alloc(), "books", id.as_str()).expect(rt, "a key")
 }
 
 // A wire to an index of its own for each of these.

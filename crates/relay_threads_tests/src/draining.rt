@@ -1,9 +1,9 @@
 //! What a lane tells while it works until nothing is held.
-ghost use Rattle.std.specs.Prelude.{◌≡◌, ◌≢◌, ◌+◌, [], None, IfSome};
+ghost use Rattle.std.specs.Prelude.{◌≡◌, ◌≢◌, ◌+◌, [], None};
 
 use crate::operations::{AtOnce, action_of, key_of};
 use crate::relays::CONFIG;
-use crate::told::{Summing, Sums, new_sums};
+use crate::told::{Sums, new_sums};
 use relay_action::{Body, Op};
 use relay_fixtures::index_wire::{IndexWire, Way, wire_of};
 use relay_fixtures::watched::{Watch, Watched};
@@ -11,6 +11,7 @@ use relay_lane::{Lane, RelayConfig};
 use relay_queue::{LanePut, LaneTake, lane_queue};
 use relay_threads::{LaneEndKind, run_lane};
 use std::alloc::Global;
+use std::process::Abort;
 use std::sync::atomic::Ordering;
 use std::sync::{Arc, Wait};
 
@@ -58,79 +59,59 @@ fn comparing_wire(alloc: Global, sums: Arc<Sums>) -> Watched<IndexWire, Comparin
 }
 
 // An operation on the only document.
-fn body_of(alloc: Global, number: u64) -> Option<Body>
-    ensures { IfSome result (λ b. b ≢ Body.Done) }
+fn body_of(rt: &(impl Abort + AllocGlobal), number: u64) -> Body
+    ensures { result ≢ Body.Done }
 {
-    Some(Body::Put(Op {
+    Body::Put(Op {
         epoch: 0,
         producer: 0,
         number,
-        key: key_of(alloc, 0, 1)?,
-        action: action_of(alloc, number)?,
-    }))
+        key: key_of(rt.alloc(), 0, 1).expect(rt, "a key"),
+        action: action_of(rt.alloc(), number).expect(rt, "an action"),
+    })
 }
 
 // Puts three operations.
-fn put_three<R: Wait>(rt: &R, alloc: Global, put: &mut LanePut) -> bool {
+fn put_three<R: Wait + Abort + AllocGlobal>(rt: &R, put: &mut LanePut) {
     for number in 1..4u64 {
-        let Some(body) = body_of(alloc, number) else {
-            return false;
-        };
-        if put.put(rt, body).is_err() {
-            return false;
-        }
+        put.put(rt, body_of(rt, number)).expect(rt, "a put");
     }
-    true
 }
 
 // The first sender puts three operations, and all close.
-fn put_and_close<R: Wait>(rt: &R, alloc: Global, mut puts: Vec<LanePut>) -> bool {
-    let mut all = false;
+fn put_and_close<R: Wait + Abort + AllocGlobal>(rt: &R, mut puts: Vec<LanePut>) {
     while let Some(mut put) = puts.pop() {
         if puts.is_empty() {
-            all = put_three(rt, alloc, &mut put);
+            put_three(rt, &mut put);
         }
-        if put.close(rt).is_err() {
-            return false;
-        }
+        assert!(rt; put.close(rt).is_ok());
     }
-    all
 }
 
-// A lane that heard everything before it sent anything.
-fn drained<R: Wait>(
-    rt: &R,
-    alloc: Global,
-    take: LaneTake,
-    sums: Arc<Sums>,
-    tell: &mut Summing,
-) -> Option<(u64, bool)>
+// How many answers a lane waited for that heard everything before it sent anything, and whether it
+// told late of what had ended before one of them.
+fn drained<R: Wait + Abort + AllocGlobal>(rt: &R, take: LaneTake) -> (u64, bool)
     requires senders { take.senders ≡ ALL_AT_ONCE.producers + 1 }
     requires none_taken { take.taken ≡ [] }
 {
-    let lane = Lane::new(alloc, ALL_AT_ONCE).ok()?;
-    let wire = comparing_wire(alloc, sums);
-    let end = run_lane(rt, take, lane, wire, AtOnce, tell);
-    if end.kind != LaneEndKind::Finished {
-        return None;
-    }
-    Some((end.wire.watch.answers, end.wire.watch.late))
-}
-
-// How many answers it waited for, and whether it told late of what had ended before one of them.
-fn told_of<R: Wait>(rt: &R, alloc: Global) -> Option<(u64, bool)> {
-    let (take, puts) = lane_queue(alloc, ALL_AT_ONCE.capacity, ALL_AT_ONCE.producers + 1).ok()?;
-    if !put_and_close(rt, alloc, puts) {
-        return None;
-    }
-    let (sums, mut tell) = new_sums(alloc).ok()?;
-    drained(rt, alloc, take, sums, &mut tell)
+    let (sums, mut tell) = new_sums(rt.alloc()).expect(rt, "memory");
+    let lane = Lane::new(rt.alloc(), ALL_AT_ONCE).expect(rt, "memory");
+    let wire = comparing_wire(rt.alloc(), sums);
+    let end = run_lane(rt, take, lane, wire, AtOnce, &mut tell);
+    assert!(rt; end.kind == LaneEndKind::Finished);
+    (end.wire.watch.answers, end.wire.watch.late)
 }
 
 // Three operations of one document are sent one after another. The lane has heard that all have
 // closed before it waits for the first answer, so it drains from then on.
 #[test]
 fn each_turn_is_told(rt: HostRuntime) {
-    let told = told_of(&rt, rt.alloc());
-    assert!(rt; told == Some((3, false)), "{told:?}");
+    let (take, puts) = lane_queue(
+        rt.alloc(),
+        ALL_AT_ONCE.capacity,
+        ALL_AT_ONCE.producers + 1,
+    ).expect(&rt, "memory");
+    put_and_close(&rt, puts);
+    let told = drained(&rt, take);
+    assert!(rt; told == (3, false), "{told:?}");
 }

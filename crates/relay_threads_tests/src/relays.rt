@@ -19,9 +19,9 @@ use relay_loop::{LoopEnd, LoopWire, wire_to};
 use relay_producer::{ClosedProducer, Control, Producer};
 use relay_threads::{FinishFault, LaneSummary, Relay, StartFault, Summary, Tell};
 use std::alloc::{AllocError, Global};
+use std::process::Abort;
 use std::sync::atomic::{AtomicU32, Ordering};
 use std::sync::{Arc, Wait};
-use std::test::Fail;
 use std::thread::Threads;
 use std::time::Clock;
 
@@ -346,12 +346,11 @@ fn is_delivered(alloc: Global, summary: &Summary<IndexWire>) -> Option<bool> {
 }
 
 #[test]
-fn two_producers(rt: HostRuntime) -> Result<(), Fail> {
+fn two_producers(rt: HostRuntime) {
     let alloc = rt.alloc();
     let wire = losing_wire(alloc);
-    let summary = run_one(rt, alloc, CONFIG, wire, 100, &AtomicU32::new(0))?;
+    let summary = run_one(rt, alloc, CONFIG, wire, 100, &AtomicU32::new(0)).expect(&rt, "a run");
     assert!(rt; is_delivered(alloc, &summary) == Some(true));
-    Ok(())
 }
 
 // Whether these are the sums over operations of two producers, each numbered from 1 to 100, of
@@ -374,11 +373,10 @@ fn is_passed_on<W>(summary: &Summary<W>, sums: &Sums) -> bool {
 }
 
 #[test]
-fn successes_are_passed_on(rt: HostRuntime) -> Result<(), Fail> {
+fn successes_are_passed_on(rt: HostRuntime) {
     let alloc = rt.alloc();
-    let (summary, sums) = run_summing(rt, alloc, losing_wire(alloc), 100)?;
+    let (summary, sums) = run_summing(rt, alloc, losing_wire(alloc), 100).expect(&rt, "a run");
     assert!(rt; is_passed_on(&summary, &sums));
-    Ok(())
 }
 
 // Whether every operation was reported, and each report was passed on.
@@ -395,47 +393,41 @@ fn is_reported<W>(summary: &Summary<W>, sums: &Sums) -> bool {
 }
 
 #[test]
-fn reports_are_passed_on(rt: HostRuntime) -> Result<(), Fail> {
+fn reports_are_passed_on(rt: HostRuntime) {
     let alloc = rt.alloc();
     let wire = wire_of(alloc, Way::Whole(400));
-    let (summary, sums) = run_summing(rt, alloc, wire, 100)?;
+    let (summary, sums) = run_summing(rt, alloc, wire, 100).expect(&rt, "a run");
     assert!(rt; is_reported(&summary, &sums));
-    Ok(())
 }
 
 // A wire to its own index, whose first reply is lost.
-fn loop_wire(alloc: Global) -> Result<LoopWire, AllocError>
-    ensures { IfOk result (λ w. numbers w.out ≡ []) }
+fn loop_wire(rt: &(impl Abort + AllocGlobal)) -> LoopWire
+    ensures { numbers result.out ≡ [] }
 {
-    let mut end = LoopEnd::new(alloc, Index::new(alloc), Script::new(alloc));
-    end.lose(1)?;
-    wire_to(alloc, end, 16)
+    let mut end = LoopEnd::new(rt.alloc(), Index::new(rt.alloc()), Script::new(rt.alloc()));
+    end.lose(1).expect(rt, "memory");
+    wire_to(rt.alloc(), end, 16).expect(rt, "memory")
 }
 
 // Whether a relay with a config and such a wire delivers what its producers put.
-fn delivers_over_http<R>(
-    rt: R,
-    alloc: Global,
-    config: RelayConfig,
-) -> Result<Option<bool>, RunFault>
+fn delivers_over_http<R>(rt: R, config: RelayConfig) -> Option<bool>
 where
-    R: Threads + Wait + Copy + Send + 'static,
+    R: Threads + Wait + Abort + AllocGlobal + Copy + Send + 'static,
 {
-    let Ok(wire) = loop_wire(alloc) else {
-        return Err(RunFault::Memory);
-    };
-    let summary = run_one(rt, alloc, config, wire, 100, &AtomicU32::new(0))?;
-    Ok(wire_of_all(&summary).and_then(|wire| is_whole(alloc, wire.peer().index())))
+    let wire = loop_wire(&rt);
+    let ran = run_one(rt, rt.alloc(), config, wire, 100, &AtomicU32::new(0));
+    let summary = ran.expect(&rt, "a run");
+    is_whole(rt.alloc(), wire_of_all(&summary)?.peer().index())
 }
 
 #[test]
 fn two_producers_over_http(rt: HostRuntime) {
-    assert!(rt; delivers_over_http(rt, rt.alloc(), CONFIG) == Ok(Some(true)));
+    assert!(rt; delivers_over_http(rt, CONFIG) == Some(true));
 }
 
 #[test]
 fn two_producers_with_four_in_flight(rt: HostRuntime) {
-    assert!(rt; delivers_over_http(rt, rt.alloc(), FOUR_IN_FLIGHT) == Ok(Some(true)));
+    assert!(rt; delivers_over_http(rt, FOUR_IN_FLIGHT) == Some(true));
 }
 
 // The fault at the start of a relay that has one wire, and a config with this many lanes.
@@ -452,11 +444,10 @@ where
 }
 
 #[test]
-fn start_faults(rt: HostRuntime) -> Result<(), Fail> {
+fn start_faults(rt: HostRuntime) {
     for (lanes, fault) in [(0, StartFault::BadConfig), (2, StartFault::WireCount)] {
         assert!(rt; fault_of(rt, rt.alloc(), lanes) == Some(fault));
     }
-    Ok(())
 }
 
 // A gate for each lane.
@@ -471,32 +462,19 @@ fn gates<C: Clock + Copy>(alloc: Global, clock: C) -> Result<Vec<GateWire<C>>, A
     Ok(wires)
 }
 
-// A pace for each lane.
-fn paces(alloc: Global) -> Result<Vec<AtOnce>, AllocError> {
-    let mut paces = Vec::new(alloc);
-    for _ in 0..LANES {
-        paces.push(AtOnce)?;
-    }
-    Ok(paces)
-}
-
 // A relay of eight lanes, to which one producer puts an operation for each lane.
-fn run_eight<R>(rt: R, alloc: Global) -> Result<Summary<GateWire<R>>, RunFault>
+fn run_eight<R>(rt: R) -> Summary<GateWire<R>>
 where
-    R: Threads + Wait + Clock + Copy + Send + 'static,
+    R: Threads + Wait + Clock + Abort + AllocGlobal + Copy + Send + 'static,
 {
     let config = RelayConfig {
         lanes: LANES,
         producers: 1,
         ..CONFIG
     };
-    let Ok(wires) = gates(alloc, rt) else {
-        return Err(RunFault::Memory);
-    };
-    let Ok(paces) = paces(alloc) else {
-        return Err(RunFault::Memory);
-    };
-    run_all(rt, alloc, config, wires, paces, 1, &AtomicU32::new(0))
+    let wires = gates(rt.alloc(), rt).expect(&rt, "memory");
+    let paces = vec![in rt.alloc(); AtOnce; 8].expect(&rt, "memory");
+    run_all(rt, rt.alloc(), config, wires, paces, 1, &AtomicU32::new(0)).expect(&rt, "a run")
 }
 
 // Whether each lane took one operation, and saw that all eight had sent.
@@ -510,29 +488,24 @@ fn all_passed<C: Clock>(summary: &Summary<GateWire<C>>) -> bool {
 }
 
 #[test]
-fn eight_lanes_at_once(rt: HostRuntime) -> Result<(), Fail> {
-    let summary = run_eight(rt, rt.alloc())?;
-    assert!(rt; all_passed(&summary));
-    Ok(())
+fn eight_lanes_at_once(rt: HostRuntime) {
+    assert!(rt; all_passed(&run_eight(rt)));
 }
 
 // A relay of one lane whose requests carry two operations, to which one producer puts four.
-fn run_ahead<R>(rt: R, alloc: Global) -> Result<Summary<AheadWire<R>>, RunFault>
+fn run_ahead<R>(rt: R) -> Summary<AheadWire<R>>
 where
-    R: Threads + Wait + Clock + Copy + Send + 'static,
+    R: Threads + Wait + Clock + Abort + AllocGlobal + Copy + Send + 'static,
 {
     let config = RelayConfig {
         producers: 1,
         in_flight: 1,
         ..FOUR_IN_FLIGHT
     };
-    let Ok(puts) = Arc::new(alloc, AtomicU32::new(0)) else {
-        return Err(RunFault::Memory);
-    };
-    let Ok(seen) = Arc::try_clone(&puts) else {
-        return Err(RunFault::Memory);
-    };
-    run_one(rt, alloc, config, ahead_of(alloc, rt, seen), 4, &puts)
+    let puts = Arc::new(rt.alloc(), AtomicU32::new(0)).expect(&rt, "memory");
+    let seen = Arc::try_clone(&puts).expect(&rt, "a handle");
+    let wire = ahead_of(rt.alloc(), rt, seen);
+    run_one(rt, rt.alloc(), config, wire, 4, &puts).expect(&rt, "a run")
 }
 
 // Whether a lane took four operations, the third before the reply to the first two came.
@@ -545,8 +518,6 @@ fn took_ahead<C: Clock>(summary: &Summary<AheadWire<C>>) -> bool {
 
 // The queue has one place, so the fourth is put only once the lane has taken the third.
 #[test]
-fn messages_are_taken_in_flight(rt: HostRuntime) -> Result<(), Fail> {
-    let summary = run_ahead(rt, rt.alloc())?;
-    assert!(rt; took_ahead(&summary));
-    Ok(())
+fn messages_are_taken_in_flight(rt: HostRuntime) {
+    assert!(rt; took_ahead(&run_ahead(rt)));
 }

@@ -10,7 +10,6 @@ use relay_queue::{LanePut, lane_queue};
 use relay_threads::{LaneEnd, LaneEndKind, TellNobody, run_lane};
 use std::alloc::{AllocError, Global};
 use std::sync::Wait;
-use std::test::Fail;
 use std::thread;
 use std::thread::Threads;
 
@@ -96,20 +95,18 @@ fn all_applied(end: &LaneEnd<IndexWire>) -> bool {
 }
 
 #[test]
-fn all_are_delivered(rt: HostRuntime) -> Result<(), Fail> {
-    let end = run(rt, rt.alloc(), 100, true)?;
+fn all_are_delivered(rt: HostRuntime) {
+    let end = run(rt, rt.alloc(), 100, true).expect(&rt, "a run");
     let totals = end.lane.totals();
     assert!(rt;
         end.kind == LaneEndKind::Finished && all_applied(&end),
         "{totals:?}"
     );
     assert!(rt; is_whole(rt.alloc(), &end.wire.index) == Some(true));
-    Ok(())
 }
 
 #[test]
-fn senders_that_do_not_close(rt: HostRuntime) -> Result<(), Fail> {
-    let end = run(rt, rt.alloc(), 3, false)?;
+fn senders_that_do_not_close(rt: HostRuntime) {
+    let end = run(rt, rt.alloc(), 3, false).expect(&rt, "a run");
     assert!(rt; end.kind == LaneEndKind::Gone && end.lane.totals().taken == 6);
-    Ok(())
 }
