@@ -13,7 +13,7 @@ TESTS = os.path.dirname(os.path.abspath(__file__))
 # The suites in which time does not matter, the longest first.
 TIMELESS = (("pick",), ("serve_clients",), ("scripts",), ("lines", "apply", "command_line"), ("world",))
 # Sets of the others, but for the rest. Each takes about as long.
-TIMED = (("stop", "reply"), ("run", "outage", "several"), ("epoch", "option", "progress"))
+TIMED = (("stop", "reply"), ("run", "outage", "several"), ("epoch", "option", "progress"), ("serve_hostile",))
 REST = ("--except", *sum(TIMELESS + TIMED, ()))
 
 
