@@ -16,7 +16,7 @@ use relay_queue::{LaneTake, lane_queue};
 use relay_run::faults::{FileFault, add_file_fault};
 use relay_run::feed::{FeedFault, feed};
 use relay_run::hint::say_hint;
-use relay_run::outcome::outcome_text;
+use relay_run::outcome::{add_counts, outcome_text};
 use relay_run::run::{Ran, run};
 use relay_run::saving::say_saved;
 use relay_run::skipping::say_left_out;
@@ -96,6 +96,29 @@ fn tells(alloc: Global) -> Option<bool> {
 #[test]
 fn refused_outcome(rt: HostRuntime) {
     assert!(rt; tells(rt.alloc()) == Some(true));
+}
+
+const COUNTS: &[u8] = b"applied 7 already 2 reported 1\n";
+
+// Whether the line of the counts is added to an empty text, by a second call if the first was refused.
+fn adds_counts(text: &mut Vec<u8>) -> bool {
+    match add_counts(text, 7, 2, 1) {
+        Ok(()) => true,
+        Err(AllocError) => {
+            text.clear();
+            add_counts(text, 7, 2, 1).is_ok()
+        }
+    }
+}
+
+fn has_counts(alloc: Global) -> bool {
+    let mut text = Vec::new(alloc);
+    adds_counts(&mut text) && text.as_slice() == COUNTS
+}
+
+#[test]
+fn refused_counts(rt: HostRuntime) {
+    assert!(rt; has_counts(rt.alloc()));
 }
 
 fn stream_once(alloc: Global, input: &[u8], room: usize) -> Option<MemStream>
