@@ -4,18 +4,18 @@
 // version, and sends requests of 500, each on another document, one at a time, over its own connection. While a request is out the
 // lane takes what comes. Each item is settled on its own: one that gets 429 or 503, or whose reply is lost, is sent again under
 // its version, before the next operation on its document. It makes no request smaller that a server finds too large.
-use std::borrow::Cow;
 use std::collections::hash_map::Entry;
 use std::collections::{HashMap, VecDeque};
 use std::fs::File;
-use std::io::{self, BufRead, BufReader, Read, Write};
-use std::net::TcpStream;
+use std::io::{self, BufRead, BufReader, Read};
 use std::rc::Rc;
 use std::thread;
 use std::time::{Duration, Instant};
 
 use crossbeam_channel::{bounded, Receiver, RecvTimeoutError, Sender};
-use serde::Deserialize;
+
+mod client;
+use client::{append, invalid, Action, Counts, Index, Outcome, Reply};
 
 const COUNT: usize = 500;
 // The room in a lane's channel, and how many operations a lane holds at most.
@@ -24,19 +24,6 @@ const HELD: usize = 1024;
 const ATTEMPTS: u32 = 8;
 // How long a lane waits for a full request, and before an item is sent again.
 const LINGER: Duration = Duration::from_millis(100);
-
-#[derive(Deserialize)]
-struct Metadata {
-    _index: String,
-    _id: String,
-}
-
-#[derive(Deserialize)]
-#[serde(rename_all = "lowercase")]
-enum Action {
-    Index(Metadata),
-    Delete(Metadata),
-}
 
 #[derive(PartialEq, Eq, Hash)]
 struct Document {
@@ -66,39 +53,6 @@ struct Held {
     attempts: u32,
 }
 
-#[derive(Deserialize)]
-struct Item<'a> {
-    #[serde(borrow)]
-    _id: Cow<'a, str>,
-    status: u16,
-}
-
-#[derive(Deserialize)]
-#[serde(rename_all = "lowercase")]
-enum Outcome<'a> {
-    #[serde(borrow)]
-    Index(Item<'a>),
-    #[serde(borrow)]
-    Delete(Item<'a>),
-}
-
-#[derive(Deserialize)]
-struct Reply<'a> {
-    #[serde(borrow)]
-    items: Vec<Outcome<'a>>,
-}
-
-#[derive(Default)]
-struct Counts {
-    applied: u64,
-    already: u64,
-    reported: u64,
-}
-
-fn invalid(text: &str) -> io::Error {
-    io::Error::new(io::ErrorKind::InvalidData, text)
-}
-
 // Reads a file, and passes each operation to its lane.
 fn read_file(path: &str, lanes: &[Sender<Put>]) -> io::Result<()> {
     let mut file = BufReader::with_capacity(65_536, File::open(path)?);
@@ -117,68 +71,6 @@ fn read_file(path: &str, lanes: &[Sender<Put>]) -> io::Result<()> {
         lanes[document.lane(lanes.len())].send(Put { document, source }).expect("a lane");
     }
     Ok(())
-}
-
-fn append(body: &mut Vec<u8>, document: &Document, held: &Held) -> io::Result<()> {
-    let name = if held.source.is_some() { "index" } else { "delete" };
-    write!(body, "{{\"{name}\":{{\"_id\":")?;
-    serde_json::to_writer(&mut *body, &document.id)?;
-    body.extend_from_slice(b",\"_index\":");
-    serde_json::to_writer(&mut *body, &document.index)?;
-    writeln!(body, ",\"version\":{},\"version_type\":\"external\"}}}}", held.version)?;
-    if let Some(source) = &held.source {
-        body.extend_from_slice(source.as_bytes());
-        body.push(b'\n');
-    }
-    Ok(())
-}
-
-// A connection to the index, with the buffers that requests reuse.
-struct Index {
-    address: String,
-    stream: Option<BufReader<TcpStream>>,
-    body: Vec<u8>,
-    reply: Vec<u8>,
-}
-
-impl Index {
-    // Sends the request in `body`.
-    fn send(&mut self) -> io::Result<()> {
-        if self.stream.is_none() {
-            let stream = TcpStream::connect(&self.address)?;
-            stream.set_nodelay(true)?;
-            self.stream = Some(BufReader::with_capacity(65_536, stream));
-        }
-        let stream = self.stream.as_mut().expect("a stream").get_mut();
-        let head = format!("POST /_bulk HTTP/1.1\r\nHost: {}\r\nContent-Type: application/x-ndjson\r\nContent-Length: {}\r\n\r\n", self.address, self.body.len());
-        stream.write_all(head.as_bytes())?;
-        stream.write_all(&self.body)
-    }
-
-    // Reads a reply. Returns the status; the body is in `reply`.
-    fn receive(&mut self) -> io::Result<u16> {
-        let stream = self.stream.as_mut().ok_or_else(|| invalid("no connection"))?;
-        let (mut line, mut status, mut length) = (String::new(), 0, 0);
-        loop {
-            line.clear();
-            if stream.read_line(&mut line)? == 0 {
-                return Err(invalid("no reply"));
-            }
-            if line == "\r\n" {
-                break;
-            }
-            if let Some(rest) = line.strip_prefix("HTTP/1.1 ") {
-                status = rest.split(' ').next().and_then(|word| word.parse().ok()).ok_or_else(|| invalid("no status"))?;
-            } else if let Some((name, value)) = line.split_once(':') {
-                if name.eq_ignore_ascii_case("content-length") {
-                    length = value.trim().parse().map_err(|_| invalid("no length"))?;
-                }
-            }
-        }
-        self.reply.resize(length, 0);
-        stream.read_exact(&mut self.reply)?;
-        Ok(status)
-    }
 }
 
 // A document on which a lane holds operations, in order.
@@ -255,7 +147,8 @@ impl Lane {
         for place in &places {
             let slot = &mut self.slots[*place];
             slot.waiting[0].attempts += 1;
-            append(&mut self.index.body, &slot.document, &slot.waiting[0])?;
+            let (document, held) = (&slot.document, &slot.waiting[0]);
+            append(&mut self.index.body, &document.index, &document.id, held.version, held.source.as_deref())?;
         }
         Ok(places)
     }
@@ -350,7 +243,7 @@ fn main() -> io::Result<()> {
         senders.push(sender);
         let address = format!("127.0.0.1:{port}");
         threads.push(thread::spawn(move || {
-            let index = Index { address, stream: None, body: Vec::new(), reply: Vec::new() };
+            let index = Index::new(address);
             let (places, slots, free, ready) = (HashMap::new(), Vec::new(), Vec::new(), VecDeque::new());
             Lane { puts, open: true, places, slots, free, ready, count: 0, version: 0, counts: Counts::default(), index }.run()
         }));
@@ -366,10 +259,7 @@ fn main() -> io::Result<()> {
     }
     let mut all = Counts::default();
     for lane in threads {
-        let counts = lane.join().expect("a thread that ended")?;
-        all.applied += counts.applied;
-        all.already += counts.already;
-        all.reported += counts.reported;
+        all.add(&lane.join().expect("a thread that ended")?);
     }
     println!("applied {} already {} reported {}", all.applied, all.already, all.reported);
     Ok(())

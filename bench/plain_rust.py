@@ -1,5 +1,6 @@
 """Builds the plain Rust programs that the benchmark compares with, using Debian's packages of the crates."""
 import os
+import re
 import shutil
 import subprocess
 
@@ -14,7 +15,7 @@ def is_installed(crate):
 
 
 def build(folder, name, *crates):
-    """Builds bench/NAME.rs with some crates, and returns the path of the program, or None if it cannot be built. A feature
+    """Builds bench/NAME.rs with its modules and some crates, and returns the path of the program, or None if it cannot be built. A feature
     follows its crate after a slash, as in `serde/derive`."""
     named = [crate.partition("/")[::2] for crate in crates]
     if shutil.which("cargo") is None or not all(is_installed(crate) for crate, _ in named):
@@ -22,7 +23,11 @@ def build(folder, name, *crates):
     package = os.path.join(folder, name)
     os.makedirs(os.path.join(package, "src"))
     os.makedirs(os.path.join(package, ".cargo"))
+    with open(os.path.join(BENCH, name + ".rs")) as file:
+        modules = re.findall(r"^mod (\w+);$", file.read(), re.M)
     shutil.copy(os.path.join(BENCH, name + ".rs"), os.path.join(package, "src/main.rs"))
+    for module in modules:
+        shutil.copy(os.path.join(BENCH, module + ".rs"), os.path.join(package, "src"))
     with open(os.path.join(package, "Cargo.toml"), "w") as file:
         file.write('[package]\nname = "plain"\nversion = "0.1.0"\nedition = "2021"\n\n[dependencies]\n')
         for crate, feature in named:

@@ -12,7 +12,7 @@ import sys
 TESTS = os.path.dirname(os.path.abspath(__file__))
 # The suites in which time does not matter, the longest first.
 TIMELESS = (("pick",), ("serve_clients",), ("scripts",), ("lines", "apply", "command_line"), ("world",))
-# Sets of the others, but for the rest. Each takes about as long.
+# Sets of the others, each of which takes a minute or two; the rest are a set too.
 TIMED = (("stop", "reply"), ("run", "outage", "several"), ("epoch", "option", "progress"), ("serve_hostile",))
 REST = ("--except", *sum(TIMELESS + TIMED, ()))
 
