@@ -2,6 +2,7 @@
 ghost use Rattle.std.specs.Prelude.{◌≡◌, Some, true, false, ◌-◌, ◌^◌, min, ◌+◌, ◌≤◌, ◌<◌, ◌++◌};
 ghost use Rattle.std.specs.Prelude.{◌∷◌, [], map, length, drop, slice_get, vec_len, vec_capacity};
 ghost use Rattle.std.specs.Prelude.{None};
+ghost use Rattle.relay_delivery.specs.Lane.{has_age};
 ghost use Rattle.std.specs.Vec.Iter.{into_iter_items};
 ghost use Rattle.relay_delivery.specs.Machine.{is_applied_fate, is_already_fate};
 ghost use Rattle.relay_results.specs.Documents.{document_of};
@@ -194,22 +195,23 @@ fn status_in(entry: &Option<Outcome>) -> Option<u16>
     }
 }
 
+// Whether an operation that was first sent at `since` has an age.
+fn has_age(age: u32, clock: u64, since: u64) -> bool
+    ensures { result ≡ has_age (Some age) clock since }
+{
+    match since.checked_add(u64::from(age)) {
+        Some(end) => end <= clock,
+        None => false,
+    }
+}
+
 // The tries that an operation has that was first sent at `since`.
 fn tries_since(config: &RelayConfig, clock: u64, since: u64) -> u32
     ensures { result ≡ tries_since (config_of config.now) clock since }
 {
     match config.give_up_after {
-        Some(age) => match since.checked_add(u64::from(age)) {
-            Some(end) => {
-                if end <= clock {
-                    config.attempts.min(1)
-                } else {
-                    config.attempts
-                }
-            }
-            None => config.attempts,
-        },
-        None => config.attempts,
+        Some(age) if has_age(age, clock, since) => config.attempts.min(1),
+        _ => config.attempts,
     }
 }
 
