@@ -39,8 +39,8 @@ TWO = "relay, 2 in flight"
 # A server that takes SLOW microseconds per request: the operations per request, the pairs of lanes and requests in flight
 # that are measured, and the goal: how many times as fast one lane with 8 in flight must be as one lane with 1.
 SLOW, FEW, FLIGHTS, FLIGHTS_GOAL = 5000, 100, ((1, 1), (1, 4), (1, 8), (4, 1), (4, 8)), 5.0
-# The goal: the maximum ratio of the time of a run with --progress to that of one without.
-PROGRESS_GOAL = 1.03
+# The goals: the maximum ratio of the time of a run with --progress, and of one with --state, to that of one without.
+PROGRESS_GOAL, STATE_GOAL = 1.03, 1.03
 # By how many KiB the peak memory may grow if there are ten times as many operations.
 GROWTH = 2048
 # Interpreters that may have the helpers: this one, and the one that Debian's package installs them for.
@@ -279,6 +279,26 @@ def measure_progress(folder, relay, tools, operations):
         print(line)
 
 
+def measure_state(folder, relay, tools, operations):
+    """The cost of keeping how far a run has got, once what is written at its start and its end weighs little."""
+    paths = make_files(folder, 1, operations, SIZES[0])
+    for nanoseconds, called in SERVERS:
+        runs = {False: [], True: []}
+        with Server(tools["bulk"], nanoseconds) as server:
+            for _ in range(TURNS):
+                for is_kept, of in runs.items():
+                    with tempfile.TemporaryDirectory(dir=folder) as place:
+                        more = ["--state", os.path.join(place, "state"), "--report", os.path.join(place, "report")] if is_kept else []
+                        of.append(once(run_command(relay, server.port, 1, [*more, *paths])))
+        if any(run[3] != "applied %d already 0 reported 0\n" % operations for of in runs.values() for run in of):
+            sys.exit("relay run --state did something else")
+        wall, work = (plain_rust.median([kept[at] / plain[at] for plain, kept in zip(*runs.values())]) for at in (0, 1))
+        line = "run: %d operations of %d bytes, a server %s, with --state: %.3f of its time without it, %.3f of the processor's" % (operations, SIZES[0], called, wall, work)
+        if nanoseconds:
+            line += " (goal %.2f: %s)" % (STATE_GOAL, "met" if wall <= STATE_GOAL else "MISSED")
+        print(line)
+
+
 def measure(folder, relay, operations=OPERATIONS):
     tools = {
         "bulk": plain_rust.build(folder, "bulk"),
@@ -301,5 +321,6 @@ def measure(folder, relay, operations=OPERATIONS):
     measure_halves(folder, relay, tools, operations)
     measure_flights(folder, relay, tools, operations)
     measure_progress(folder, relay, tools, operations)
+    measure_state(folder, relay, tools, 10 * operations)
     print("run: the memory of 1 file and 1 lane, operations of 100 bytes")
     measure_memory(folder, relay, tools, operations)

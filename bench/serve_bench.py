@@ -1,5 +1,6 @@
 """Measures `relay serve` in front of a plain Rust server that answers every bulk request with success: the same clients and requests,
-to it and directly to that server."""
+to it, directly to that server, and to a relay in plain Rust whose lanes only hand requests on: what any relay with lanes takes."""
+import contextlib
 import re
 import socket
 import subprocess
@@ -38,49 +39,77 @@ class Relay:
         return int(counts[1])
 
 
+class Handing:
+    """A running relay in plain Rust that only hands requests on, with as many lanes as `relay serve` has."""
+
+    def __init__(self, handing, server):
+        self.process = subprocess.Popen([handing, server.port, "4"], stdout=subprocess.PIPE, text=True)
+        self.port = self.process.stdout.readline().strip()
+
+    def __enter__(self):
+        return self
+
+    def __exit__(self, *_):
+        self.process.kill()
+        self.process.communicate()
+
+
+@contextlib.contextmanager
+def ports(relay, handing, server, operations):
+    """Starts the relays before a server, and gives the port of each and of the server, by name. `relay serve` must have had so many operations
+    applied at the end."""
+    with Handing(handing, server) if handing else contextlib.nullcontext() as floor:
+        standing = Relay(relay, server)
+        yield {"relay": standing.port, **({"handing": floor.port} if floor else {}), "direct": server.port}
+        applied(standing, operations)
+
+
 def applied(relay, wanted):
     found = relay.stop()
     if found != wanted:
         sys.exit("relay serve has had %d of %d operations applied" % (found, wanted))
 
 
-def measure_singles(relay, bulk):
+def beside(of):
+    """What to say of the relay that only hands on, given its ratio over the turns; nothing if it was not measured."""
+    return "" if of is None else "; one in plain Rust that only hands on: %.2f" % of
+
+
+def measure_singles(relay, bulk, handing):
     for microseconds, goal in SINGLES:
-        times = {"relay": [], "direct": []}
-        with Server(bulk, 0, None, microseconds) as server:
-            standing = Relay(relay, server)
+        with Server(bulk, 0, None, microseconds) as server, ports(relay, handing, server, TURNS * WRITES) as to:
+            times = {name: [] for name in to}
             for _ in range(TURNS):
-                for name, port in (("relay", standing.port), ("direct", server.port)):
+                for name, port in to.items():
                     told = once([bulk, "single", port, str(WRITES)])[3]
                     times[name].append(float(told.rpartition(", ")[2].split()[0]))
-            applied(standing, TURNS * WRITES)
-        ratio = plain_rust.median([own / its for own, its in zip(times["relay"], times["direct"])])
-        print("serve: %d single writes one after another, a server that takes %d microseconds per request: median %.0f us, direct %.0f us, ratio %.2f (goal %.1f: %s)" % (WRITES, microseconds, plain_rust.median(times["relay"]), plain_rust.median(times["direct"]), ratio, goal, "met" if ratio <= goal else "MISSED"))
+        ratio, floor = (plain_rust.median([own / its for own, its in zip(times[name], times["direct"])]) if name in times else None for name in ("relay", "handing"))
+        print("serve: %d single writes one after another, a server that takes %d microseconds per request: median %.0f us, direct %.0f us, ratio %.2f (goal %.1f: %s)%s" % (WRITES, microseconds, plain_rust.median(times["relay"]), plain_rust.median(times["direct"]), ratio, goal, "met" if ratio <= goal else "MISSED", beside(floor)))
 
 
-def measure_rates(folder, relay, bulk):
+def measure_rates(folder, relay, bulk, handing):
     for size in SIZES:
         paths = []
         for path in make_files(folder, CLIENTS, OPERATIONS, size):
             with open(path, "rb") as file:
                 paths.append(write_bodies(file.read().split(b"\n"), path + "-ready"))
         for nanoseconds, called in SERVERS:
-            walls = {"relay": [], "direct": []}
-            with Server(bulk, nanoseconds) as server:
-                standing = Relay(relay, server)
+            with Server(bulk, nanoseconds) as server, ports(relay, handing, server, TURNS * OPERATIONS) as to:
+                walls = {name: [] for name in to}
                 for _ in range(TURNS):
-                    for name, port in (("relay", standing.port), ("direct", server.port)):
+                    for name, port in to.items():
                         walls[name].append(once([bulk, "ready", port, *paths])[0])
-                applied(standing, TURNS * OPERATIONS)
-            ratio = plain_rust.median([its / own for own, its in zip(walls["relay"], walls["direct"])])
+            ratio, floor = (plain_rust.median([its / own for own, its in zip(walls[name], walls["direct"])]) if name in walls else None for name in ("relay", "handing"))
             line = "serve: %d operations of %d bytes in requests of 500 from %d clients, a server %s: %.0f operations/s, %.2f of direct" % (OPERATIONS, size, CLIENTS, called, OPERATIONS / plain_rust.median(walls["relay"]), ratio)
-            print(line + (" (goal %.1f: %s)" % (RATE_GOAL, "met" if ratio >= RATE_GOAL else "MISSED") if nanoseconds else ""))
+            print(line + (" (goal %.1f: %s)" % (RATE_GOAL, "met" if ratio >= RATE_GOAL else "MISSED") if nanoseconds else "") + beside(floor))
 
 
 def measure(folder, relay):
-    bulk = plain_rust.build(folder, "bulk")
+    bulk, handing = plain_rust.build(folder, "bulk"), plain_rust.build(folder, "handing", "crossbeam-channel")
     if not bulk:
         print("serve: not measured: cargo, which builds the server, is not installed")
         return
-    measure_singles(relay, bulk)
-    measure_rates(folder, relay, bulk)
+    if not handing:
+        print("serve: the relay that only hands on was not measured: librust-crossbeam-channel-dev is not installed")
+    measure_singles(relay, bulk, handing)
+    measure_rates(folder, relay, bulk, handing)

@@ -44,6 +44,8 @@ class TlsServer(Server):
             inside = self.context.wrap_socket(stream, server_side=True)
         except OSError:
             return stream.close()
+        with self.lock:
+            self.streams.append(inside)
         return super().serve(inside)
 
 

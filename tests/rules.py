@@ -10,7 +10,7 @@ BULK, INPUT, KINDS, BODIES = "Bulk text", "Producer input", "Kinds of faults", "
 LINES, APPLY, WORLD, RUN, PICK, STUB = ("`relay %s`" % it for it in ("lines", "apply", "world", "run", "pick", "stub"))
 REPLIES, ITEM, WHOLE, WRITTEN = "Replies", "The verdict on an item", "The verdict on a whole request", "A written reply"
 LANE, SCRIPT, HTTP, COMING = "What a lane does", "The script of the world", "HTTP", "Faults while the bytes come"
-MESSAGES, EPOCHS = "Written messages", "An epoch from the index"
+MESSAGES, EPOCHS, RESUME = "Written messages", "An epoch from the index", "The state of a run"
 SERVE, REQUESTS, OPERATIONS, ANSWERS = "`relay serve`", "Requests", "Operations of a body", "Answers"
 
 HOMES = {
@@ -121,6 +121,12 @@ HOMES = {
         "what an answer means for an operation": WHOLE,
         "what the definitions rule out": CODE,
         "definitions on lists": CODE,
+    }),
+    "relay_resume": (RESUME, {
+        "private: what a trail keeps": CODE,
+        "private: one line is passed": CODE,
+        "private: the texts of the inputs": CODE,
+        "private: the state in a JSON value": CODE,
     }),
     "relay_run": (RUN, {"the epoch of a run": EPOCHS}),
     "relay_scenario": (SCRIPT, {"which lines are taken": WORLD, "which calls failed": WORLD, "exit statuses": WORLD}),

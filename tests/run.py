@@ -10,6 +10,7 @@ import client_cases
 import epoch_cases
 import input_cases
 import lines_cases
+import minute_cases
 import log_cases
 import option_cases
 import outage_cases
@@ -27,6 +28,7 @@ import serve_client_cases
 import serve_hostile_cases
 import several_cases
 import skip_cases
+import state_cases
 import socket_cases
 import stop_cases
 import stub_cases
@@ -78,8 +80,8 @@ def command_line():
 SUITES = {
     "lines": lines_cases.GROUPS, "apply": apply_cases.GROUPS, "stub": stub_cases.GROUPS, "client": client_cases.GROUPS, "run": run_cases.GROUPS, "serve": serve_cases.GROUPS,
     "serve_hostile": serve_hostile_cases.GROUPS, "serve_clients": serve_client_cases.GROUPS,
-    "pick": pick_cases.GROUPS, "proxy": proxy_cases.GROUPS, "reason": reason_cases.GROUPS, "option": option_cases.GROUPS, "several": several_cases.GROUPS, "skip": skip_cases.GROUPS,
-    "input": input_cases.GROUPS, "outage": outage_cases.GROUPS, "socket": socket_cases.GROUPS, "pause": pause_cases.GROUPS, "report": report_cases.GROUPS, "stop": stop_cases.GROUPS,
+    "pick": pick_cases.GROUPS, "proxy": proxy_cases.GROUPS, "reason": reason_cases.GROUPS, "option": option_cases.GROUPS, "several": several_cases.GROUPS, "skip": skip_cases.GROUPS, "state": state_cases.GROUPS,
+    "input": input_cases.GROUPS, "outage": outage_cases.GROUPS, "minute": minute_cases.GROUPS, "socket": socket_cases.GROUPS, "pause": pause_cases.GROUPS, "report": report_cases.GROUPS, "stop": stop_cases.GROUPS,
     "progress": progress_cases.GROUPS, "log": log_cases.GROUPS, "reply": reply_cases.GROUPS, "too_large": too_large_cases.GROUPS, "restart": restart_cases.GROUPS,
     "epoch": epoch_cases.GROUPS, "world": world_cases.GROUPS, "scripts": world_cases.SCRIPTS, "command_line": (command_line,),
 }

@@ -13,7 +13,7 @@ import uuid
 
 from bulk_server import Server
 from program import FEWER, RELAY, SECONDS, check, leave
-from run_cases import FAULTS, wait_for
+from run_cases import FAULTS, wait_for, wait_until
 from stub_cases import Stub, free_port
 
 WRITTEN = {"_shards": {"total": 1, "successful": 1, "failed": 0}, "_seq_no": -2, "_primary_term": 0}
@@ -555,4 +555,61 @@ def down():
     check("the stop after an outage", serve.stop()[:2] == (0, b"applied 1 already 0 reported 1\n"))
 
 
-GROUPS = (documents, bulk, refusals_by_item, refusals_of_requests, faces, framing, broken, faults, killed, epochs, late, turns, stops, down)
+def metrics_of(serve):
+    """The values of the metrics, by their names with their labels; each metric has its help and its type."""
+    status, fields, text = serve.whole("GET", "/_relay/metrics")
+    check("the metrics", status == 200 and fields["content-type"] == "text/plain; version=0.0.4; charset=utf-8", (status, fields.items()))
+    found, named = {}, {}
+    for line in text.decode().splitlines():
+        if line.startswith("# "):
+            _, what, name, said = line.split(" ", 3)
+            named.setdefault(name, {})[what] = said
+            continue
+        name, value = line.rsplit(" ", 1)
+        found[name] = float(value)
+        plain = re.sub(r"_(bucket|sum|count)$", "", name.partition("{")[0])
+        check("%s has its help and its type" % name, named.get(plain, {}).keys() == {"HELP", "TYPE"}, named)
+    return found
+
+
+def watched():
+    """What operators see: whether writes can be settled, and what is counted."""
+    server = Server(refuse=lambda meta: 400 if meta["_id"] == "bad" else None)
+    serve = Serve(server, "--workers", "4", "--lanes", "2", "--epoch", "7")
+    check("it is up", serve.ask("GET", "/_relay/health") == (200, {"status": "up"}))
+    check("HEAD of its health", serve.whole("HEAD", "/_relay/health")[::2] == (200, b""))
+    for target in ("/_relay/health", "/_relay/metrics"):
+        status, fields, text = serve.whole("POST", target, b"")
+        check("POST of %s" % target, status == 405 and fields["allow"] == "GET, HEAD", (status, fields.items()))
+    check("another part of the relay", serve.ask("GET", "/_relay/others")[0] == 400)
+    before = metrics_of(serve)
+    check("nothing ended yet", all(value == 0 for name, value in before.items() if name.startswith("relay_operations_total")) and before["relay_epoch"] == 7, before)
+    status, value = serve.ask("POST", "/_bulk", body_of([("1", "{}"), ("2", "{}"), ("bad", "{}"), ("1", None)]))
+    check("a bulk of four", status == 200 and value["errors"], value)
+    serve.ask("PUT", "/books/_doc/3", b"{}")
+    found = metrics_of(serve)
+    ends = {end: found['relay_operations_total{end="%s"}' % end] for end in ("applied", "already", "reported", "late", "unput", "gone")}
+    check("how the operations ended", ends == {"applied": 4, "already": 0, "reported": 1, "late": 0, "unput": 0, "gone": 0}, ends)
+    buckets = [value for name, value in found.items() if name.startswith("relay_request_seconds_bucket")]
+    check("how long the requests took", found["relay_request_seconds_count"] == 2 == buckets[-1] and buckets == sorted(buckets) and len(buckets) == 11, found)
+    check("what the index was sent", found["relay_index_operations_total"] == 5 and found["relay_index_requests_total"] == found["relay_index_answers_total"] == server.requests and found["relay_index_up"] == 1, found)
+    check("its connections", found['relay_connections{state="served"}'] >= 1 and found['relay_connections{state="waiting"}'] == 0, found)
+    server.close()
+    with server.lock:
+        streams, server.streams = server.streams, []
+    for stream in streams:
+        stream.close()
+    asking = threading.Thread(target=serve.ask, args=("PUT", "/books/_doc/4", b"{}"))
+    asking.start()
+    wait_until(lambda: serve.ask("GET", "/_relay/health")[0] == 503)
+    check("it is down", serve.ask("GET", "/_relay/health") == (503, {"status": "down", "reason": "the index does not answer"}))
+    check("so its metrics say", metrics_of(serve)["relay_index_up"] == 0)
+    server.listen(server.port)
+    asking.join()
+    check("it is up again", serve.ask("GET", "/_relay/health") == (200, {"status": "up"}))
+    status, out, _ = serve.stop()
+    check("it ends", (status, out) in ((0, b"applied 5 already 0 reported 1\n"), (0, b"applied 4 already 1 reported 1\n")), (status, out))
+    server.close()
+
+
+GROUPS = (documents, bulk, refusals_by_item, refusals_of_requests, faces, framing, broken, faults, killed, epochs, late, turns, stops, down, watched)

@@ -65,14 +65,23 @@ where
 }
 
 fn relay_command<'a>(alloc: Global) -> Result<Command<'a>, AllocError> {
-    let mut command = Command::new(alloc, "relay")
+    let command = Command::new(alloc, "relay")
         .version("0.1.0")
         .about(ABOUT)
         .subcommand_required(true);
+    let mut command = Ok(command);
     for subcommand in Subcommand::ALL {
-        command = command.subcommand(command_of(subcommand, alloc)?)?;
+        command = with_subcommand(command, command_of(subcommand, alloc));
     }
-    Ok(command)
+    command
+}
+
+fn with_subcommand<'a>(
+    command: Result<Command<'a>, AllocError>,
+    subcommand: Result<Command<'a>, AllocError>,
+) -> Result<Command<'a>, AllocError> {
+    let command = command?;
+    command.subcommand(subcommand?)
 }
 
 // Runs the subcommand that was found, or nothing if it is unknown.

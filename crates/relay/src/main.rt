@@ -10,6 +10,7 @@
 //! of the functions that it calls are proved, over any reader and writer.
 #![tactic(auto)]
 
+mod builder;
 mod command;
 mod noted;
 mod options;

@@ -1,4 +1,5 @@
 //! Options that several subcommands have.
+use crate::report::{out_of_memory, usage};
 use clap::builder::ValueParser;
 use clap::{Arg, ArgAction, ArgMatches};
 use relay_action::DocKey;
@@ -55,7 +56,7 @@ pub struct Retries {
 pub const GIVE_UP_AFTER: TextOption = TextOption {
     name: "give-up-after",
     value: "DURATION",
-    help: "Send an operation that fails again until so long has passed since it was first sent, rounded up to seconds, 1s to 168h; a bare number counts seconds. never: without end",
+    help: "Send an operation that fails again until so long has passed since it was first sent, rounded up to seconds, 1s to 168h; a bare number counts seconds. never: after 2097152 attempts, which take 155 days or more",
 };
 
 /// The address of the index.
@@ -68,8 +69,8 @@ pub const TO: TextOption = TextOption {
 /// What is said of an address that cannot be the host of a request.
 pub const NO_HOST: &str = "error: --to ADDR has to be 1 to 255 visible ASCII characters";
 
-/// What is said of a counter that is no document.
-pub const NO_COUNTER: &str =
+// What is said of a counter that is no document.
+const NO_COUNTER: &str =
     "error: --epoch-from INDEX/ID has to name an index, 1 to 255 bytes, and after a slash an id, 1 to 512 bytes";
 
 impl TextOption {
@@ -191,14 +192,12 @@ pub fn read_retries<R: Eprint>(rt: &R, word: &str) -> Result<Retries, Exit> {
     }
 }
 
-/// The counter document, if one was named. `Some(None)`: the name is not one of a document.
-pub fn counter_of(
-    alloc: Global,
-    matches: &ArgMatches<'_>,
-    option: &TextOption,
-) -> Result<Option<Option<DocKey>>, AllocError> {
-    match option.get(matches) {
-        Some(name) => Ok(Some(read_name(alloc, name)?)),
-        None => Ok(None),
+/// The counter document of this name. If the name is not one of a document, prints so, and returns
+/// the exit status.
+pub fn read_counter<R: Eprint + AllocGlobal>(rt: &R, name: &str) -> Result<DocKey, Exit> {
+    match read_name(rt.alloc(), name) {
+        Ok(Some(counter)) => Ok(counter),
+        Ok(None) => Err(usage(rt, NO_COUNTER)),
+        Err(_) => Err(out_of_memory(rt)),
     }
 }

@@ -9,9 +9,10 @@ use clap::ArgMatches;
 use relay_action::StdStream;
 use relay_commands::apply::ApplyFault;
 use relay_commands::body::read_body;
-use relay_index::{Index, Script};
+use relay_index::{Index, Script, ServeFault};
 use relay_words::Exit;
-use std::alloc::{AllocError, Global};
+use std::alloc::Global;
+use std::io::ErrorKind;
 
 /// Whether the index states the versions of conflicts.
 pub const REASONS: FlagOption = FlagOption {
@@ -47,13 +48,33 @@ pub fn served_index<R: Eprint + AllocGlobal>(
     matches: &ArgMatches<'_>,
 ) -> Result<Index, Exit> {
     let mut index = index_of(rt.alloc(), matches);
-    let Some(path) = WRITES.get(matches) else {
-        return Ok(index);
-    };
+    if let Some(path) = WRITES.get(matches) {
+        serve_file(rt, host, path, &mut index)?;
+    }
+    Ok(index)
+}
+
+// Serves the request in a file.
+fn serve_file<R: Eprint + AllocGlobal>(
+    rt: &R,
+    host: HostRuntime,
+    path: &str,
+    index: &mut Index,
+) -> Result<(), Exit> {
     let body = body_of(rt, host, path)?;
     let mut script = Script::new(rt.alloc());
-    match index.serve_body(rt.alloc(), &body, &mut script) {
-        Ok((200, _)) => Ok(index),
+    let answer = index.serve_body(rt.alloc(), &body, &mut script);
+    is_served(rt, path, answer)
+}
+
+// Prints why a request was not served, if it was not.
+fn is_served<R: Eprint>(
+    rt: &R,
+    path: &str,
+    answer: Result<(u16, String), ServeFault>,
+) -> Result<(), Exit> {
+    match answer {
+        Ok((200, _)) => Ok(()),
         Ok((_, text)) => Err(said(rt, path, &text, Exit::Input)),
         Err(_) => Err(out_of_memory(rt)),
     }
@@ -69,8 +90,15 @@ fn body_of<R: Eprint + AllocGlobal>(
     let file = open_noted(rt, host, path, &reason)?;
     match read_body(rt.alloc(), &mut StdStream::new(file)) {
         Ok(body) => Ok(body),
-        Err(ApplyFault::BodyLong) => Err(said(rt, path, "body too long", Exit::Input)),
-        Err(ApplyFault::Memory) => Err(out_of_memory(rt)),
-        Err(_) => Err(failed(rt, path, "read failed", reason.get().copied())),
+        Err(fault) => Err(exit_after(rt, path, fault, reason.get().copied())),
+    }
+}
+
+// Prints why the body in a file was not read.
+fn exit_after<R: Eprint>(rt: &R, path: &str, fault: ApplyFault, reason: Option<ErrorKind>) -> Exit {
+    match fault {
+        ApplyFault::BodyLong => said(rt, path, "body too long", Exit::Input),
+        ApplyFault::Memory => out_of_memory(rt),
+        _ => failed(rt, path, "read failed", reason),
     }
 }

@@ -53,10 +53,10 @@ fn answer_each(rt: &impl Abort, alloc: Global, lane: &mut Lane, tries: &[Given<'
 
 // Puts one operation, whose three tries are answered so. What became of the last, if it is given up.
 fn last_of(rt: &impl Abort, alloc: Global, tries: &[Given<'_>]) -> Option<LastTry> {
-    let mut lane = lane_of(rt, alloc, CONFIG);
-    put_each(rt, alloc, &mut lane, &[(1, "a", "{}")]);
-    answer_each(rt, alloc, &mut lane, tries);
-    last_in(&lane)
+    let lane = lane_of(rt, alloc, CONFIG);
+    put_each(rt, alloc, lane, &[(1, "a", "{}")]);
+    answer_each(rt, alloc, lane, tries);
+    last_in(lane)
 }
 
 const BUSY: &[Entry<'_>] = &[Entry::Failed("a", 429)];
@@ -125,13 +125,13 @@ const ABC: &[(u64, &str, &str)] = &[(2, "a", "{}"), (3, "b", ""), (4, "c", "{}")
 // Whether of three operations of a request that is refused as a whole, after a report from before,
 // the first report has this reason, and no other has.
 fn tells_first(rt: &impl Abort, alloc: Global, reason: &str) -> bool {
-    let mut lane = lane_of(rt, alloc, CONFIG);
-    put_each(rt, alloc, &mut lane, &[(1, "x", "{}")]);
-    answer(rt, alloc, &mut lane, Given::Whole(400, "the one before"));
-    put_each(rt, alloc, &mut lane, ABC);
-    answer(rt, alloc, &mut lane, Given::Whole(403, reason));
+    let lane = lane_of(rt, alloc, CONFIG);
+    put_each(rt, alloc, lane, &[(1, "x", "{}")]);
+    answer(rt, alloc, lane, Given::Whole(400, "the one before"));
+    put_each(rt, alloc, lane, ABC);
+    answer(rt, alloc, lane, Given::Whole(403, reason));
     let reasons = &[(400, "the one before"), (403, reason), (403, ""), (403, "")];
-    have_reasons(&lane, reasons)
+    have_reasons(lane, reasons)
 }
 
 #[test]

@@ -81,10 +81,16 @@ struct Desk {
     last: u64,
 }
 
-/// A lane with a config, which must be valid.
-pub fn lane_of(rt: &impl Abort, alloc: Global, config: RelayConfig) -> Lane {
+fn new_lane(rt: &impl Abort, alloc: Global, config: RelayConfig) -> Lane {
     assert!(rt; config.valid());
     Lane::new(alloc, config).expect(rt, "memory")
+}
+
+/// A lane with a config, which must be valid. It is leaked: to prove that a lane can be dropped
+/// costs more than the rest of a test.
+pub fn lane_of<'a>(rt: &impl Abort, alloc: Global, config: RelayConfig) -> &'a mut Lane {
+    let lane = Box::new(alloc, new_lane(rt, alloc, config));
+    Box::leak(lane.expect(rt, "memory"))
 }
 
 // Takes a message of a sender. Returns the fault, if it is not taken.
@@ -325,6 +331,13 @@ fn has_reports(lane: &Lane, reports: &[(u64, u8, u32)]) -> bool {
     lane.reports().len() == reports.len()
 }
 
+// Plays steps: each has its result.
+fn play_each(rt: &impl Abort, alloc: Global, desk: &mut Desk, steps: &[Step<'_>]) {
+    for i in 0..steps.len() {
+        assert!(rt; plays(rt, alloc, desk, &steps[i]), "step {i}");
+    }
+}
+
 /// Plays steps on a fresh lane: each has its result, and the lane then has these reports, and
 /// returns as many at its end.
 pub fn goes(
@@ -335,13 +348,11 @@ pub fn goes(
     reports: &[(u64, u8, u32)],
 ) {
     let mut desk = Desk {
-        lane: lane_of(rt, alloc, config),
+        lane: new_lane(rt, alloc, config),
         puts: 0,
         last: 0,
     };
-    for i in 0..steps.len() {
-        assert!(rt; plays(rt, alloc, &mut desk, &steps[i]), "step {i}");
-    }
+    play_each(rt, alloc, &mut desk, steps);
     assert!(rt; has_reports(&desk.lane, reports));
     assert!(rt; desk.lane.into_reports().len() == reports.len());
 }

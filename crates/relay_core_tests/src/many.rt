@@ -42,11 +42,11 @@ fn put_many(rt: &impl Abort, alloc: Global, lane: &mut Lane, count: u64, distinc
 // A lane takes 65,536 operations, all on one document or each on its own, and then one more: the
 // result for that one, how many are held, and how many the next request carries.
 fn fill(rt: &impl Abort, alloc: Global, distinct: bool) -> (Option<TakeFault>, u32, usize) {
-    let mut lane = lane_of(rt, alloc, FULL);
-    put_many(rt, alloc, &mut lane, 65_536, distinct);
-    let more = put(rt, alloc, &mut lane, 65_536, "more", "");
+    let lane = lane_of(rt, alloc, FULL);
+    put_many(rt, alloc, lane, 65_536, distinct);
+    let more = put(rt, alloc, lane, 65_536, "more", "");
     lane.flush();
-    (more, lane.held(), carried(rt, &mut lane))
+    (more, lane.held(), carried(rt, lane))
 }
 
 #[test]
@@ -76,10 +76,10 @@ fn apply_each(rt: &impl Abort, alloc: Global, lane: &mut Lane, count: u64) {
 // Deletes of one document, each sent and settled as applied in its own request: how many are held
 // then, and how many were looked at.
 fn each_alone(rt: &impl Abort, alloc: Global, count: u64) -> (u32, u64) {
-    let mut lane = lane_of(rt, alloc, FULL);
-    put_many(rt, alloc, &mut lane, count, false);
+    let lane = lane_of(rt, alloc, FULL);
+    put_many(rt, alloc, lane, count, false);
     lane.flush();
-    apply_each(rt, alloc, &mut lane, count);
+    apply_each(rt, alloc, lane, count);
     (lane.held(), lane.looks())
 }
 
@@ -91,11 +91,11 @@ fn one_look_for_each_request(rt: HostRuntime) {
 
 // Deletes of these documents: how many the next request carries, and how many were looked at.
 fn look(rt: &impl Abort, alloc: Global, documents: &[u64]) -> (usize, u64) {
-    let mut lane = lane_of(rt, alloc, CONFIG);
+    let lane = lane_of(rt, alloc, CONFIG);
     for at in 0..documents.len() {
-        puts(rt, alloc, &mut lane, at as u64, documents[at]);
+        puts(rt, alloc, lane, at as u64, documents[at]);
     }
-    (carried(rt, &mut lane), lane.looks())
+    (carried(rt, lane), lane.looks())
 }
 
 // A request looks at one operation for each document that is held.

@@ -43,9 +43,9 @@ const THEIR_ENTRIES: &[Entry<'static>] = &[
 #[test]
 fn successes_have_their_status(rt: HostRuntime) {
     let alloc = rt.alloc();
-    let mut lane = lane_of(&rt, alloc, CONFIG);
-    put_each(&rt, alloc, &mut lane, ABC);
-    answer(&rt, alloc, &mut lane, THEIR_ENTRIES);
+    let lane = lane_of(&rt, alloc, CONFIG);
+    put_each(&rt, alloc, lane, ABC);
+    answer(&rt, alloc, lane, THEIR_ENTRIES);
     assert!(rt; are_noted(lane.successes(), &[(1, 1, Some(201)), (3, 3, Some(404))]));
     lane.forget_successes();
     assert!(rt; lane.successes().is_empty() && lane.reports().len() == 1);
@@ -55,10 +55,10 @@ fn successes_have_their_status(rt: HostRuntime) {
 #[test]
 fn an_earlier_request_has_no_status(rt: HostRuntime) {
     let alloc = rt.alloc();
-    let mut lane = lane_of(&rt, alloc, CONFIG);
-    put_each(&rt, alloc, &mut lane, &[(1, "a", "{}")]);
-    answer(&rt, alloc, &mut lane, &[]);
+    let lane = lane_of(&rt, alloc, CONFIG);
+    put_each(&rt, alloc, lane, &[(1, "a", "{}")]);
+    answer(&rt, alloc, lane, &[]);
     lane.tick();
-    answer(&rt, alloc, &mut lane, &[Entry::Failed("a", 409)]);
+    answer(&rt, alloc, lane, &[Entry::Failed("a", 409)]);
     assert!(rt; are_noted(lane.successes(), &[(1, 1, None)]));
 }

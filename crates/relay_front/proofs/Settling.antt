@@ -17,7 +17,7 @@ use Rattle.relay_front.specs.declared.service.Front.{Front}
 use Rattle.relay_front.specs.Faces.{is_coded}
 use Rattle.relay_front.specs.Operations.{Write}
 use Rattle.relay_front.specs.Routes.{Target, Bulk, Put, Add, Delete, asked_by}
-use Rattle.relay_front.specs.Service.{Settles, Reply, Answers, RepliesBy, RepliesByCoding, RepliesTo, RepliesToAdd, RepliesToBulk, RepliesToBulkAt, RepliesToDelete, RepliesToDocument, RepliesToPut, RepliesToWrite, RepliesToWriter, does_write}
+use Rattle.relay_front.specs.Service.{Settles, Reply, Answers, RepliesBy, RepliesByCoding, RepliesTo, RepliesToAdd, RepliesToBulk, RepliesToBulkAt, RepliesToDelete, RepliesToDocument, RepliesToPut, RepliesToWrite, RepliesToWriter, does_write, target_asked}
 
 -- nothing was settled, or these writes once
 abbrev pub SettlesOnce : {S : Type 0} → Settles S → S → S → Type 0
@@ -88,8 +88,7 @@ once_by false settles face default target request old reply new r = inl r.0
 -- a request has at most one list of writes settled
 pub answers_once : {S : Type 0} (settles : Settles S) (face : Face) (default : Option (List ℕ)) (old : S) (request : Request (List ℕ)) (response : Response) (new : S) → Answers settles face default old request response new → SettlesOnce settles old new
 answers_once settles face default old request response new a =
-    let target = asked_by (head_of request).method (uri_path (head_of request).uri) in
-    once_by (does_write target) settles face default target request old a.0 new a.1
+    once_by (does_write (target_asked request)) settles face default (target_asked request) request old a.0 new a.1
 
 -- ---- by the calls of a service
 

@@ -29,6 +29,14 @@ nodes_body address =
     codes "{\"_nodes\":{\"total\":1,\"successful\":1,\"failed\":0},\"cluster_name\":\"relay\",\"nodes\":{\"relay\":{\"name\":\"relay\",\"version\":\"7.10.2\",\"roles\":[\"data\",\"ingest\",\"master\"],\"http\":{\"bound_address\":["
     ++ quoted address ++ codes "],\"publish_address\":" ++ quoted address ++ codes ",\"max_content_length_in_bytes\":104857600}}}}"
 
+-- `GET /_relay/health`
+abbrev pub up : List ℕ
+up = codes "{\"status\":\"up\"}"
+
+-- for this reason no writes can be settled
+abbrev pub down : List ℕ → List ℕ
+down reason = codes "{\"status\":\"down\",\"reason\":" ++ quoted reason ++ codes "}"
+
 -- the address that the client used: that of the target, or else what its field `host` shows (RFC 9112, section 3.2)
 abbrev pub IsAddress : Option (List ℕ) → Option FieldValue → List ℕ → Type 0
 IsAddress (Some authority) host address = address ≡ authority

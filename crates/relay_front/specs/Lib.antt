@@ -9,4 +9,5 @@ pub mod Bodies
 pub mod Metadata
 pub mod Operations
 pub mod Faces
+pub mod Fields
 pub mod Service

@@ -11,6 +11,8 @@ pub data Target : Type 0 where
   CatHealth : Target
   Nodes : Target
   License : Target
+  Health : Target
+  Metrics : Target
   IndexExists : Target
   Bulk : (index : Option (List ℕ)) → Target
   Put : (index id : List ℕ) → Target
@@ -27,6 +29,8 @@ target_of route.ClusterHealth = ClusterHealth
 target_of route.CatHealth = CatHealth
 target_of route.Nodes = Nodes
 target_of route.License = License
+target_of route.Health = Health
+target_of route.Metrics = Metrics
 target_of route.IndexExists = IndexExists
 target_of (route.Bulk index) = Bulk (option_map (λ t. t.now) index)
 target_of (route.Put index id) = Put index.now id.now
@@ -70,6 +74,13 @@ one_part m a =
     else if is_reserved a then Unknown
     else only_by m (codes "HEAD") IndexExists
 
+-- `/_relay/B`
+abbrev pub relay_part : List ℕ → List ℕ → Target
+relay_part m b =
+    if bytes_eq b (codes "health") then read_by m Health
+    else if bytes_eq b (codes "metrics") then read_by m Metrics
+    else Unknown
+
 -- `/A/B` below an index
 abbrev pub below_index : List ℕ → List ℕ → List ℕ → Target
 below_index m a b =
@@ -83,6 +94,7 @@ two_parts m a b =
     if bytes_eq a (codes "_cluster") && bytes_eq b (codes "health") then read_by m ClusterHealth
     else if bytes_eq a (codes "_cat") && bytes_eq b (codes "health") then read_by m CatHealth
     else if bytes_eq a (codes "_nodes") && bytes_eq b (codes "http") then read_by m Nodes
+    else if bytes_eq a (codes "_relay") then relay_part m b
     else if is_reserved a then Unknown
     else below_index m a b
 

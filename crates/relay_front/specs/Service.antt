@@ -8,6 +8,7 @@ use Rattle.http.specs.Request.{head_of, body_of}
 use Rattle.http_uri.specs.Uri.{uri_authority, uri_path, uri_query}
 use Rattle.http_header.specs.HeaderMap.{get}
 use Rattle.http_server.specs.declared.response.Response.{Response}
+use Rattle.http_server.specs.Response.{fields_of}
 use Rattle.relay_action.specs.Actions.{IsIndexOf}
 use Rattle.relay_action.specs.declared.action.Action.{Action}
 use Rattle.relay_action.specs.declared.action.Action.TheVariants as action
@@ -24,11 +25,12 @@ use Rattle.relay_front.specs.declared.operation.ItemFault.{ItemFault}
 use Rattle.relay_front.specs.declared.replying.Answer.{Answer}
 use Rattle.relay_front.specs.declared.replying.Short.{Short}
 use Rattle.relay_front.specs.declared.replying.Short.TheVariants as short
-use Rattle.relay_front.specs.Faces.{IsAddress, cluster_health, compact_health, info_of, is_coded, license, nodes_body}
+use Rattle.relay_front.specs.Faces.{IsAddress, cluster_health, compact_health, down, info_of, is_coded, license, nodes_body, up}
+use Rattle.relay_front.specs.Fields.{HasFields}
 use Rattle.relay_front.specs.Operations.{Write, HasRead, BreaksBody, key_by, source_reason}
 use Rattle.relay_front.specs.Queries.{meaning_of}
 use Rattle.relay_front.specs.Reasons.{reason_of}
-use Rattle.relay_front.specs.Routes.{Target, Info, ClusterHealth, CatHealth, Nodes, License, IndexExists, Bulk, Put, Add, Delete, Method, asked_by}
+use Rattle.relay_front.specs.Routes.{Target, Info, ClusterHealth, CatHealth, Nodes, License, Health, Metrics, IndexExists, Bulk, Put, Add, Delete, Method, asked_by}
 use Rattle.relay_front.specs.Said.{said_by}
 use Rattle.relay_front.specs.Texts.{bulk_body, document_body, document_status, first_end, illegal_argument, refusal_body}
 
@@ -206,6 +208,8 @@ RepliesToReader face CatHealth head reply = IsReply 200 compact_health reply
 RepliesToReader face License head reply = IsReply 200 license reply
 RepliesToReader face Nodes head reply =
     (address : List ℕ) × IsAddress (uri_authority head.uri) (get head.headers (codes "host")) address × IsReply 200 (nodes_body address) reply
+RepliesToReader face Health head reply = IsReply 200 up reply ⊎ ((reason : List ℕ) × IsReply 503 (down reason) reply)
+RepliesToReader face Metrics head reply = (text : List ℕ) × IsReply 200 text reply
 RepliesToReader face IndexExists head reply = IsReply 200 [] reply
 RepliesToReader face (Method allow) head reply =
     IsReply 405 (refusal_body 405 illegal_argument (codes "the relay does not take this method for this target")) reply
@@ -216,26 +220,34 @@ RepliesBy true settles face default target request old reply new =
     RepliesToWriter settles default target (uri_query (head_of request).uri) (is_coded (head_of request).headers) (body_of request) old reply new
 RepliesBy false settles face default target request old reply new = (new ≡ old) × RepliesToReader face target (head_of request) reply
 
+-- what a request asks for
+abbrev pub target_asked : Request (List ℕ) → Target
+target_asked request = asked_by (head_of request).method (uri_path (head_of request).uri)
+
 -- what is replied to a request, given what the relay says that it is, and the index of operations that name none
 abbrev pub RepliesToRequest : {S : Type 0} → Settles S → Face → Option (List ℕ) → Request (List ℕ) → S → Reply → S → Type 0
 RepliesToRequest settles face default request old reply new =
-    let target = asked_by (head_of request).method (uri_path (head_of request).uri) in
-    RepliesBy (does_write target) settles face default target request old reply new
+    RepliesBy (does_write (target_asked request)) settles face default (target_asked request) request old reply new
 
 -- a status that is none of HTTP (RFC 9110, section 15) is shown as 502
 abbrev pub status_shown : ℕ → ℕ
 status_shown status = if nat_lt 99 status && nat_lt status 1000 then status else 502
 
--- the response has this status and this body; one that says that memory ran out has status 503
-abbrev pub IsSaid : Reply → Response → Type 0
-IsSaid (Says status text) r = (r.status ≡ status_shown status) × (r.body.items ≡ text)
-IsSaid NoMemory r = r.status ≡ 503
-IsSaid NoAnswer r = r.status ≡ 503
+-- the response has status 503, and no fields
+abbrev pub IsShort : Response → Type 0
+IsShort r = (r.status ≡ 503) × (fields_of r ≡ [])
+
+-- the response has this status, this body, and the fields of a response to this target; or it says that memory ran out
+abbrev pub IsSaid : Face → Target → Reply → Response → Type 0
+IsSaid face target (Says status text) r = (r.status ≡ status_shown status) × (r.body.items ≡ text) × HasFields face target r
+IsSaid face target NoMemory r = IsShort r
+IsSaid face target NoAnswer r = IsShort r
 
 -- the response is the reply, or says that memory ran out for it
 abbrev pub Answers : {S : Type 0} → Settles S → Face → Option (List ℕ) → S → Request (List ℕ) → Response → S → Type 0
 Answers settles face default old request response new =
-    (reply : Reply) × RepliesToRequest settles face default request old reply new × (IsSaid reply response ⊎ IsSaid NoAnswer response)
+    (reply : Reply) × RepliesToRequest settles face default request old reply new
+    × (IsSaid face (target_asked request) reply response ⊎ IsShort response)
 
 -- ---- for private clauses
 

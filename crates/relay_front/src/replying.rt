@@ -17,13 +17,11 @@ use crate::settle::{Ids, Settle};
 use relay_action::{Action, DocKey};
 use std::alloc::{AllocError, Global};
 
-/// An answer: its status, its body, the field `allow`, and whether the body is plain text.
+/// An answer: its status and its body.
 #[derive(Drop)]
 pub struct Answer {
     pub status: u16,
     pub text: Vec<u8>,
-    pub allow: Option<&'static str>,
-    pub plain: bool,
 }
 
 /// Why there is no answer: allocation failed, before anything was put or after.
@@ -43,23 +41,14 @@ impl From<AllocError> for Short {
     }
 }
 
-/// An answer in JSON.
-pub fn answer_of(status: u16, text: Vec<u8>) -> Answer
-    ensures { (result.status ≡ status) × (result.text ≡ text) }
-{
-    Answer {
-        status,
-        text,
-        allow: None,
-        plain: false,
-    }
-}
-
 /// An error as the answer.
 pub fn refuse(alloc: Global, status: u16, kind: &str, reason: &str) -> Result<Answer, Short>
     ensures { IsReply status (refusal_body status kind.now reason.now) (reply_of result) }
 {
-    Ok(answer_of(status, refusal_text(alloc, status, kind, reason)?))
+    Ok(Answer {
+        status,
+        text: refusal_text(alloc, status, kind, reason)?,
+    })
 }
 
 /// An error for which the client is to blame as the answer.
@@ -105,7 +94,7 @@ pub fn reply_to_bulk<S: Settle, I: Ids>(
     };
     let settled = relay.settle(operations.writes)?;
     match bulk_text(alloc, settled.took, &operations.items, &settled.ends) {
-        Ok(text) => Ok(answer_of(200, text)),
+        Ok(text) => Ok(Answer { status: 200, text }),
         Err(_) => Err(Short::Put),
     }
 }
@@ -140,7 +129,7 @@ fn reply_to_write<S: Settle>(
     let unput = End::Unput;
     let end = settled.ends.first().unwrap_or(&unput);
     match document_text(alloc, key, said_of(kind, made, end)) {
-        Ok((status, text)) => Ok(answer_of(status, text)),
+        Ok((status, text)) => Ok(Answer { status, text }),
         Err(_) => Err(Short::Put),
     }
 }

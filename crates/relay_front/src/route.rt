@@ -3,7 +3,7 @@ ghost use Rattle.std.specs.Prelude.{◌≡◌, [], ◌∷◌, MatchOption, optio
 ghost use Rattle.relay_front.specs.Parts.{parts_at};
 ghost use Rattle.relay_front.specs.Routes.{target_of, asked_by, by_parts, without_slash};
 ghost use Rattle.relay_front.specs.Routes.{one_part, two_parts, three_parts, is_reserved};
-ghost use Rattle.relay_front.specs.Routes.{read_by, bulk_by, document_by, below_index};
+ghost use Rattle.relay_front.specs.Routes.{read_by, bulk_by, document_by, below_index, relay_part};
 
 /// What a request asks for. Parts of the path are as they are there, not yet percent-decoded.
 #[derive(Clone, Copy, Debug, PartialEq, Eq)]
@@ -18,6 +18,10 @@ pub enum Route<'a> {
     Nodes,
     /// `GET` or `HEAD` of `/_license`.
     License,
+    /// `GET` or `HEAD` of `/_relay/health`: whether the relay can have writes settled.
+    Health,
+    /// `GET` or `HEAD` of `/_relay/metrics`: what the relay counts.
+    Metrics,
     /// `HEAD /INDEX`.
     IndexExists,
     /// `POST` or `PUT` of `/_bulk`, `/INDEX/_bulk` or `/INDEX/_doc/_bulk`.
@@ -129,10 +133,24 @@ fn two_parts<'a>(method: &str, first: &'a str, second: &'a str) -> Route<'a>
     if first == "_nodes" && second == "http" {
         return read_only(method, Route::Nodes);
     }
+    if first == "_relay" {
+        return relay_part(method, second);
+    }
     if is_reserved(first) {
         return Route::Unknown;
     }
     below_index(method, first, second)
+}
+
+// `/_relay/SECOND`
+fn relay_part<'a>(method: &str, second: &str) -> Route<'a>
+    ensures { target_of result ≡ relay_part method.now second.now }
+{
+    match second {
+        "health" => read_only(method, Route::Health),
+        "metrics" => read_only(method, Route::Metrics),
+        _ => Route::Unknown,
+    }
 }
 
 // `/INDEX/SECOND`

@@ -1,17 +1,20 @@
 //! The service.
-ghost use Rattle.std.specs.Prelude.{◌≡◌, OnOk, ℕ, List, codes};
+ghost use Rattle.std.specs.Prelude.{◌≡◌, ◌⊎◌, ◌++◌, OnOk, ℕ, List, [], IsTrue, codes};
 ghost use Rattle.relay_ndjson.specs.Metadata.{bytes_given};
 ghost use Rattle.http.specs.Request.{head_of};
 ghost use Rattle.http_uri.specs.Uri.{uri_authority};
+ghost use Rattle.http_header.specs.FieldValue.{is_visible_text};
 ghost use Rattle.http_header.specs.HeaderMap.{get};
-ghost use Rattle.relay_front.specs.Faces.{IsAddress, is_coded, is_coding, nodes_body};
+ghost use Rattle.http_server.specs.Response.{fields_of};
+ghost use Rattle.relay_front.specs.Faces.{IsAddress, down, is_coded, is_coding, nodes_body, up};
 ghost use Rattle.relay_front.specs.Routes.{target_of};
-ghost use Rattle.relay_front.specs.Service.{Answers, IsReply, RepliesToReader, RepliesToRequest};
+ghost use Rattle.relay_front.specs.Fields.{HasFields, allow_of, close_of, media_of, product_of};
+ghost use Rattle.relay_front.specs.Service.{Answers, IsReply, RepliesBy, RepliesToReader};
 ghost use Rattle.relay_front.specs.Service.{does_write, reply_of, status_shown};
 
 use crate::face::Face;
 use crate::refusal::{FAILED_ROOM, ILLEGAL_ARGUMENT, NO_ANSWER, NO_MEMORY};
-use crate::replying::{Answer, Short, answer_of, refuse, refuse_client};
+use crate::replying::{Answer, Short, refuse, refuse_client};
 use crate::route::{Route, route_of};
 use crate::settle::{Ids, Settle};
 use crate::targets::{NO_TARGET, reply_to_writer};
@@ -58,6 +61,8 @@ const CAT_HEALTH: &str = "0 00:00:00 relay green 1 1 0 0 0 0 0 0 - 100.0%\n";
 const LICENSE: &str =
     "{\"license\":{\"status\":\"active\",\"uid\":\"relay\",\"type\":\"basic\",\"issue_date\":\"2026-01-01T00:00:00.000Z\",\"issue_date_in_millis\":1767225600000,\"max_nodes\":1000,\"issued_to\":\"relay\",\"issuer\":\"relay\",\"start_date_in_millis\":-1}}";
 
+const UP: &str = "{\"status\":\"up\"}";
+
 // Whether a route writes, so that its query and the coding of its body matter.
 fn does_write(route: Route<'_>) -> bool
     ensures { result ≡ does_write (target_of route.entry) }
@@ -93,7 +98,10 @@ impl<'a, S: Settle, I: Ids> Front<'a, S, I> {
     {
         let mut bytes = Vec::new(self.alloc);
         add(&mut bytes, text)?;
-        Ok(answer_of(200, bytes))
+        Ok(Answer {
+            status: 200,
+            text: bytes,
+        })
     }
 
     // One node, at the address that the client used.
@@ -113,24 +121,46 @@ impl<'a, S: Settle, I: Ids> Front<'a, S, I> {
         add(&mut text, "],\"publish_address\":")?;
         add_string(alloc, &mut text, address)?;
         add(&mut text, ",\"max_content_length_in_bytes\":104857600}}}}")?;
-        Ok(answer_of(200, text))
+        Ok(Answer { status: 200, text })
     }
 
-    // The answer to a request.
-    fn respond(&mut self, request: &Request<Bytes>) -> Result<Answer, Short>
-        ensures reply { RepliesToRequest S.settles self.old.face (bytes_given self.old.index)
-            request.now self.old.relay (reply_of result) self.new.relay }
+    // Whether writes can be settled, and if not, why.
+    fn health(&self) -> Result<Answer, Short>
+        ensures { IsReply 200 up (reply_of result)
+            ⊎ ((reason : List ℕ) × IsReply 503 (down reason) (reply_of result)) }
+    {
+        match self.relay.trouble() {
+            Some(reason) => self.down(reason),
+            None => self.text(UP),
+        }
+    }
+
+    // No writes can be settled, for this reason.
+    fn down(&self, reason: &str) -> Result<Answer, Short>
+        ensures { IsReply 503 (down reason.now) (reply_of result) }
+    {
+        let alloc = self.alloc;
+        let mut text = Vec::new(alloc);
+        add(&mut text, "{\"status\":\"down\",\"reason\":")?;
+        add_string(alloc, &mut text, reason)?;
+        add(&mut text, "}")?;
+        Ok(Answer { status: 503, text })
+    }
+
+    // The answer to a request with this route.
+    fn respond(&mut self, route: Route<'_>, request: &Request<Bytes>) -> Result<Answer, Short>
+        ensures reply { RepliesBy (does_write (target_of route.entry)) S.settles self.old.face
+            (bytes_given self.old.index) (target_of route.entry) request.now self.old.relay
+            (reply_of result) self.new.relay }
         ensures index { self.new.index ≡ self.old.index }
         ensures face { self.new.face ≡ self.old.face }
     {
-        let uri = request.uri();
-        let route = route_of(request.method().as_str(), uri.path());
         if does_write(route) {
             return reply_to_writer(
                 self.alloc,
                 self.index,
                 route,
-                uri.query(),
+                request.uri().query(),
                 is_coded(request),
                 request.body().as_slice(),
                 &mut self.relay,
@@ -150,52 +180,92 @@ impl<'a, S: Settle, I: Ids> Front<'a, S, I> {
             Route::ClusterHealth => self.text(CLUSTER_HEALTH),
             Route::License => self.text(LICENSE),
             Route::Nodes => self.nodes(request),
+            Route::Health => self.health(),
+            Route::Metrics => Ok(Answer {
+                status: 200,
+                text: self.relay.metrics(self.alloc)?,
+            }),
             Route::IndexExists => self.text(""),
-            Route::CatHealth => Ok(Answer {
-                plain: true,
-                ..self.text(CAT_HEALTH)?
-            }),
-            Route::Method { allow } => Ok(Answer {
-                allow: Some(allow),
-                ..refuse(
-                    self.alloc,
-                    405,
-                    ILLEGAL_ARGUMENT,
-                    "the relay does not take this method for this target",
-                )?
-            }),
+            Route::CatHealth => self.text(CAT_HEALTH),
+            Route::Method { .. } => refuse(
+                self.alloc,
+                405,
+                ILLEGAL_ARGUMENT,
+                "the relay does not take this method for this target",
+            ),
             _ => refuse_client(self.alloc, NO_TARGET),
         }
     }
 
-    // Adds the fields of an answer.
-    fn add_fields(&self, answer: &Answer, response: &mut Response) -> Result<(), AllocError> {
-        let media = if answer.plain {
-            "text/plain; charset=UTF-8"
-        } else {
-            "application/json"
-        };
-        response.add_header(header::CONTENT_TYPE, HeaderValue::from_static(media))?;
-        if matches!(self.face, Face::Compatible) {
-            response.add_header(
-                HeaderName::from_static("x-elastic-product"),
-                HeaderValue::from_static("Elasticsearch"),
-            )?;
+    // Adds the fields of the answer to a request with this route.
+    fn add_fields(&self, route: Route<'_>, response: &mut Response) -> Result<(), AllocError>
+        requires { fields_of response.old ≡ [] }
+        ensures fields { OnOk result (HasFields self.now.face (target_of route.entry) response.new) }
+    {
+        response.add_header(
+            header::CONTENT_TYPE,
+            HeaderValue::from_static(media_of(route)),
+        )?;
+        add_product(self.face, response)?;
+        add_allow(self.alloc, route, response)?;
+        add_close(self.relay.is_ending(), response)
+    }
+}
+
+// Adds the product.
+fn add_product(face: Face, response: &mut Response) -> Result<(), AllocError>
+    ensures { OnOk result (fields_of response.new ≡ fields_of response.old ++ product_of face) }
+{
+    match face {
+        Face::Compatible => response.add_header(
+            HeaderName::from_static("x-elastic-product"),
+            HeaderValue::from_static("Elasticsearch"),
+        ),
+        Face::OpenSearch => Ok(()),
+    }
+}
+
+// Adds the methods of a target that does not have that of the request.
+fn add_allow(alloc: Global, route: Route<'_>, response: &mut Response) -> Result<(), AllocError>
+    ensures { OnOk result (fields_of response.new
+        ≡ fields_of response.old ++ allow_of (target_of route.entry)) }
+{
+    match route {
+        Route::Method { allow } => {
+            let allow = HeaderValue::from_str(alloc, allow).map_err(|_| AllocError)?;
+            response.add_header(header::ALLOW, allow)
         }
-        if let Some(allow) = answer.allow {
-            let allow = HeaderValue::from_str(self.alloc, allow).map_err(|_| AllocError)?;
-            response.add_header(header::ALLOW, allow)?;
-        }
-        if self.relay.is_ending() {
-            response.add_header(header::CONNECTION, HeaderValue::from_static("close"))?;
-        }
+        _ => Ok(()),
+    }
+}
+
+// Adds that the connection closes, if it does.
+fn add_close(is_ending: bool, response: &mut Response) -> Result<(), AllocError>
+    ensures { OnOk result (fields_of response.new ≡ fields_of response.old ++ close_of is_ending) }
+{
+    if is_ending {
+        response.add_header(header::CONNECTION, HeaderValue::from_static("close"))
+    } else {
         Ok(())
+    }
+}
+
+// The media type of the answer to a request with this route.
+fn media_of(route: Route<'_>) -> &'static str
+    ensures text { result.now ≡ media_of (target_of route.entry) }
+    ensures visible { IsTrue (is_visible_text result.now) }
+{
+    match route {
+        Route::CatHealth => "text/plain; charset=UTF-8",
+        Route::Metrics => "text/plain; version=0.0.4; charset=utf-8",
+        _ => "application/json",
     }
 }
 
 // Fills the body with one of the texts for which the room was made.
 fn fill_short(response: &mut Response, text: &[u8])
-    ensures { response.new.status ≡ 503 }
+    ensures status { response.new.status ≡ 503 }
+    ensures fields { fields_of response.new ≡ [] }
 {
     response.status = StatusCode::SERVICE_UNAVAILABLE;
     response.headers.clear();
@@ -217,6 +287,7 @@ fn status_of(status: u16) -> StatusCode
 fn fill(response: &mut Response, status: u16, text: Vec<u8>) -> Result<(), AllocError>
     ensures status { OnOk result (response.new.status ≡ status_shown status) }
     ensures body { OnOk result (response.new.body.items ≡ text.items) }
+    ensures fields { fields_of response.new ≡ fields_of response.old }
 {
     response.status = status_of(status);
     response.body.clear();
@@ -235,7 +306,8 @@ impl<'a, S: Settle, I: Ids> Service for Front<'a, S, I> {
     ) -> Result<(), AllocError> {
         response.headers.reserve(4)?;
         response.body.reserve(FAILED_ROOM)?;
-        let answer = match self.respond(request) {
+        let route = route_of(request.method().as_str(), request.uri().path());
+        let answer = match self.respond(route, request) {
             Ok(answer) => answer,
             Err(Short::Unput) => {
                 fill_short(response, NO_MEMORY);
@@ -246,7 +318,7 @@ impl<'a, S: Settle, I: Ids> Service for Front<'a, S, I> {
                 return Ok(());
             }
         };
-        if self.add_fields(&answer, response).is_err() {
+        if self.add_fields(route, response).is_err() {
             fill_short(response, NO_ANSWER);
             return Ok(());
         }

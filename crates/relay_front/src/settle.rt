@@ -6,7 +6,7 @@ ghost use Rattle.relay_front.specs.declared.ending.End.{End};
 
 use crate::ending::End;
 use relay_action::{Action, DocKey, Text};
-use std::alloc::AllocError;
+use std::alloc::{AllocError, Global};
 
 /// How the writes of a request ended.
 #[derive(Drop)]
@@ -31,6 +31,12 @@ pub trait Settle {
 
     /// Whether the relay takes no further request.
     fn is_ending(&self) -> bool;
+
+    /// Why no writes can be settled now, if so, as an operator is told.
+    fn trouble(&self) -> Option<&'static str>;
+
+    /// What the relay counts, in the text format of Prometheus. `AllocError`: allocation failed.
+    fn metrics(&self, alloc: Global) -> Result<Vec<u8>, AllocError>;
 }
 
 /// Makes ids for documents.

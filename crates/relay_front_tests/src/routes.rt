@@ -10,6 +10,8 @@ const ROWS: &[(&str, &str, Route<'static>)] = &[
     ("GET", "/_nodes/http", Route::Nodes),
     ("GET", "/_nodes/_all/http", Route::Nodes),
     ("GET", "/_license", Route::License),
+    ("GET", "/_relay/health", Route::Health),
+    ("HEAD", "/_relay/metrics", Route::Metrics),
     ("HEAD", "/books", Route::IndexExists),
     ("PUT", "/books", Route::Method { allow: "HEAD" }),
     ("POST", "/_bulk", Route::Bulk { index: None }),

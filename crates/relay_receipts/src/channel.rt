@@ -5,6 +5,7 @@ ghost use Rattle.crossbeam_channel.specs.Ends.{sends_on};
 ghost use Rattle.relay_receipts.specs.declared.rule.Knowledge.TheVariants.{Taker};
 ghost use Rattle.relay_receipts.specs.Ends.{channel_of, fresh, fresh_tells};
 
+use crate::bell::Bell;
 use crate::notice::Notice;
 use crate::rule::{Knowledge, NoticePass, NoticeSender, Splits, Telling};
 use crate::take::ReceiptTake;
@@ -31,13 +32,15 @@ pub fn receipts<T: Drop>(
         alloc,
         places as usize,
     )?;
+    let bell = Bell::new(alloc)?;
     let mut tells = Vec::new(alloc);
     for lane in 0..lanes {
-        tells.push(add_lane(&sends, &mut pass, lane)?)?;
+        tells.push(add_lane(&sends, &bell, &mut pass, lane)?)?;
     }
     let take = ReceiptTake {
         channel: takes,
         pass,
+        bell,
     };
     Ok((take, tells))
 }
@@ -45,6 +48,7 @@ pub fn receipts<T: Drop>(
 // Makes the end of one more lane, with a pass that is split off the producer's.
 fn add_lane<T: Drop>(
     sends: &NoticeSender<T>,
+    bell: &Bell,
     pass: &mut NoticePass<T>,
     lane: u32,
 ) -> Result<LaneTell<T>, AllocError>
@@ -56,11 +60,13 @@ fn add_lane<T: Drop>(
         × (channel_of pass.new ≡ channel_of pass.old)) }
 {
     let channel = sends.try_clone()?;
+    let bell = bell.another()?;
     let pass = channel.another::<Splits>(pass);
     Ok(LaneTell {
         channel,
         pass,
         lane,
         closed: false,
+        bell,
     })
 }

@@ -14,6 +14,7 @@
 //! tests show that, and no contract says it.
 #![tactic(auto)]
 
+mod bell;
 pub mod channel;
 pub mod notice;
 pub mod rule;

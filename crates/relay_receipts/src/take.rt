@@ -3,12 +3,14 @@ ghost use Rattle.std.specs.Prelude.{◌≡◌, ◌<◌, [], ◌∷◌, ◌++◌}
 ghost use Rattle.std.specs.Prelude.{List, Option, IfOk, IfErr, IfSome, IfNone};
 ghost use Rattle.relay_receipts.specs.Notices.{said_by, says, IsWellTaken, HasLast};
 
+use crate::bell::Bell;
 use crate::notice::{Gone, Notice};
 use crate::rule::{Meets, NoticePass, NoticeReceiver, Reads, Takes};
 use crate::tell::ToldLane;
 use crossbeam_channel::TryRecvError;
 use std::marker::Model;
 use std::sync::Wait;
+use std::time::{Clock, Duration, Instant};
 use std::{hint, thread};
 
 // The number of tries before the end sleeps in the channel. Waking a sleeper takes a system call,
@@ -33,6 +35,7 @@ fn pause(turn: u32) {
 pub struct ReceiptTake<T: Drop> {
     pub(crate) channel: NoticeReceiver<T>,
     pub(crate) pass: NoticePass<T>,
+    pub(crate) bell: Bell,
 }
 
 impl<T: Drop> Model for ReceiptTake<T> {
@@ -68,11 +71,8 @@ impl<T: Drop> ReceiptTake<T> {
         ensures well_taken { IsWellTaken self.new.lanes self.new.taken }
         ensures gone { IfErr result (λ _. self.new ≡ self.old) }
     {
-        for turn in 0..TRIES {
-            if let Some(notice) = self.try_take(rt)? {
-                return Ok(notice);
-            }
-            pause(turn);
+        if let Some(notice) = self.poll(rt)? {
+            return Ok(notice);
         }
         self.take_waiting(rt)
     }
@@ -96,6 +96,80 @@ impl<T: Drop> ReceiptTake<T> {
         }
     }
 
+    // Takes the first notice, unless none is queued for some tries.
+    fn poll<R: Wait>(&mut self, rt: &R) -> Result<Option<Notice<T>>, Gone>
+        ensures same { (self.new.channel ≡ self.old.channel) × (self.new.lanes ≡ self.old.lanes) }
+        ensures taken { IfOk result
+            (λ o. IfSome o (λ n. self.new.taken ≡ self.old.taken ++ n ∷ [])) }
+        ensures lane { IfOk result (λ o. IfSome o (λ n. n.lane < self.old.lanes)) }
+        ensures well_taken { IsWellTaken self.new.lanes self.new.taken }
+        ensures none { IfOk result (λ o. IfNone o (self.new ≡ self.old)) }
+        ensures gone { IfErr result (λ _. self.new ≡ self.old) }
+    {
+        for turn in 0..TRIES {
+            if let Some(notice) = self.try_take(rt)? {
+                return Ok(Some(notice));
+            }
+            pause(turn);
+        }
+        self.try_take(rt)
+    }
+
+    /// Takes the first notice. It waits for at most `limit` while nothing is queued, by the clock, and
+    /// then returns `None`. If the clock cannot be read at the start, it waits as [`Self::take`] does;
+    /// if it cannot later, that ends the wait. It does not allocate. No contract says how long it
+    /// waits. `Gone` has the same meaning as there.
+    pub fn take_within<R: Wait + Clock>(
+        &mut self,
+        rt: &R,
+        limit: Duration,
+    ) -> Result<Option<Notice<T>>, Gone>
+        ensures same { (self.new.channel ≡ self.old.channel) × (self.new.lanes ≡ self.old.lanes) }
+        ensures taken { IfOk result
+            (λ o. IfSome o (λ n. self.new.taken ≡ self.old.taken ++ n ∷ [])) }
+        ensures lane { IfOk result (λ o. IfSome o (λ n. n.lane < self.old.lanes)) }
+        ensures well_taken { IsWellTaken self.new.lanes self.new.taken }
+        ensures none { IfOk result (λ o. IfNone o (self.new ≡ self.old)) }
+        ensures gone { IfErr result (λ _. self.new ≡ self.old) }
+    {
+        if let Some(notice) = self.poll(rt)? {
+            return Ok(Some(notice));
+        }
+        match Instant::now(rt) {
+            Ok(start) => self.take_from(rt, start, limit),
+            Err(_) => Ok(Some(self.take(rt)?)),
+        }
+    }
+
+    // Takes the first notice, and sleeps while nothing is queued, until `limit` is over since `start`.
+    fn take_from<R: Wait + Clock>(
+        &mut self,
+        rt: &R,
+        start: Instant,
+        limit: Duration,
+    ) -> Result<Option<Notice<T>>, Gone>
+        ensures same { (self.new.channel ≡ self.old.channel) × (self.new.lanes ≡ self.old.lanes) }
+        ensures taken { IfOk result
+            (λ o. IfSome o (λ n. self.new.taken ≡ self.old.taken ++ n ∷ [])) }
+        ensures lane { IfOk result (λ o. IfSome o (λ n. n.lane < self.old.lanes)) }
+        ensures well_taken { IsWellTaken self.new.lanes self.new.taken }
+        ensures none { IfOk result (λ o. IfNone o (self.new ≡ self.old)) }
+        ensures gone { IfErr result (λ _. self.new ≡ self.old) }
+    {
+        'looks: for _ in rt.forever() {
+            self.bell.doze();
+            let taken = self.try_take(rt)?;
+            let spent = start.elapsed(rt).unwrap_or(limit);
+            let left = limit.saturating_sub(spent);
+            if taken.is_some() || left.is_zero() {
+                self.bell.rouse();
+                return Ok(taken);
+            }
+            self.bell.sleep(rt, left);
+        }
+        unreachable!()
+    }
+
     // Takes the first notice, and sleeps while nothing is queued.
     fn take_waiting<R: Wait>(&mut self, rt: &R) -> Result<Notice<T>, Gone>
         ensures same { (self.new.channel ≡ self.old.channel) × (self.new.lanes ≡ self.old.lanes) }
@@ -115,7 +189,11 @@ impl<T: Drop> ReceiptTake<T> {
         ensures same { result ≡ self }
         ensures well_taken { IsWellTaken result.lanes result.taken }
     {
-        let ReceiptTake { channel, pass } = self;
+        let ReceiptTake {
+            channel,
+            pass,
+            bell: _,
+        } = self;
         drop(channel);
         TakenReceipts { pass }
     }

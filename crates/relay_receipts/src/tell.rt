@@ -1,6 +1,7 @@
 //! The lanes' ends.
 ghost use Rattle.std.specs.Prelude.{◌≡◌, [], ◌∷◌, ◌++◌, true, false, IfErr, OnOk, OnErr};
 
+use crate::bell::Bell;
 use crate::notice::{Gone, Notice};
 use crate::rule::{NoticePass, NoticeSender, Says};
 use crossbeam_channel::SendError;
@@ -15,6 +16,7 @@ pub struct LaneTell<T: Drop> {
     pub(crate) pass: NoticePass<T>,
     pub(crate) lane: u32,
     pub(crate) closed: bool,
+    pub(crate) bell: Bell,
 }
 
 impl<T: Drop> Model for LaneTell<T> {
@@ -60,7 +62,10 @@ impl<T: Drop> LaneTell<T> {
             told: Some(ending),
         };
         match self.channel.send_as::<Says, R>(rt, &mut self.pass, notice) {
-            Ok(()) => Ok(()),
+            Ok(()) => {
+                self.bell.ring();
+                Ok(())
+            }
             Err(
                 SendError::Disconnected(
                     Notice {
@@ -90,6 +95,7 @@ impl<T: Drop> LaneTell<T> {
         match self.channel.send_as::<Says, R>(rt, &mut self.pass, notice) {
             Ok(()) => {
                 self.closed = true;
+                self.bell.ring();
                 Ok(())
             }
             Err(_) => Err(Gone),
@@ -105,6 +111,7 @@ impl<T: Drop> LaneTell<T> {
             pass,
             lane: _,
             closed: _,
+            bell: _,
         } = self;
         ToldLane { channel, pass }
     }

@@ -15,6 +15,7 @@ use relay_action::{Action, DocKey};
 use relay_producer::{ClosedProducer, Producer, PutFault, PutFaultKind, Receipt};
 use std::marker::Model;
 use std::sync::Wait;
+use std::time::{Clock, Duration};
 use thiserror::Error;
 
 /// The largest window: 65,536 operations.
@@ -215,6 +216,32 @@ impl<T: Drop> WindowedProducer<T> {
         ensures gone { IfErr result (λ _. self.new ≡ self.old) }
     {
         let Some(notice) = self.receipts.try_take(rt)? else {
+            return Ok(None);
+        };
+        self.pending = left_open(&notice.told, self.pending);
+        Ok(Some(notice))
+    }
+
+    /// Takes the first notice as [`ReceiptTake::take_within`] does: it waits for at most `limit` while
+    /// nothing is queued, and then returns `None`.
+    pub fn take_within<R: Wait + Clock>(
+        &mut self,
+        rt: &R,
+        limit: Duration,
+    ) -> Result<Option<Notice<T>>, Gone>
+        ensures producer { self.new.producer ≡ self.old.producer }
+        ensures window { self.new.window ≡ self.old.window }
+        ensures same { (self.new.receipts.channel ≡ self.old.receipts.channel)
+            × (self.new.receipts.lanes ≡ self.old.receipts.lanes) }
+        ensures taken { IfOk result (λ o. IfSome o
+            (λ n. self.new.receipts.taken ≡ self.old.receipts.taken ++ n ∷ [])) }
+        ensures lane { IfOk result (λ o. IfSome o (λ n. n.lane < self.old.receipts.lanes)) }
+        ensures pending { IfOk result (λ o. IfSome o
+            (λ n. self.new.pending ≡ without_ended n.told self.old.pending)) }
+        ensures none { IfOk result (λ o. IfNone o (self.new ≡ self.old)) }
+        ensures gone { IfErr result (λ _. self.new ≡ self.old) }
+    {
+        let Some(notice) = self.receipts.take_within(rt, limit)? else {
             return Ok(None);
         };
         self.pending = left_open(&notice.told, self.pending);

@@ -31,7 +31,7 @@ use Rattle.relay_run.specs.Handles.{Given, given_to, all_given, EndsFed, AllEndF
 -- ---- one producer
 
 -- the operations that it was fed are added to what it had put, with their names
-put_on : (s : ProducerState) (done : List Op) (ops : List Operation) → HasPut s.producer s.put (open_puts s.ends) done
+pub put_on : (s : ProducerState) (done : List Op) (ops : List Operation) → HasPut s.producer s.put (open_puts s.ends) done
     → HasPut s.producer (after_puts s ops).put (open_puts (after_puts s ops).ends) (done ++ named_ops s.epoch s.producer (s.put + 1) ops)
 put_on s done [] h = subst (HasPut s.producer s.put (open_puts s.ends)) (sym (append-nil done)) h
 put_on s done (op ∷ ops) h =
@@ -56,7 +56,7 @@ fresh_at (q ∷ qs) p zero put at =
     record { sender = ap (λ (x : SenderEnd). x.sender) is; sent = ap (λ (x : SenderEnd). x.sent) is }
 fresh_at (q ∷ qs) p (suc lane) put at = fresh_at qs p lane put at
 
-new_none : (queues : List Queue) (epoch p : ℕ) → HasPut p 0 (open_puts (new_producer queues epoch p).ends) []
+pub new_none : (queues : List Queue) (epoch p : ℕ) → HasPut p 0 (open_puts (new_producer queues epoch p).ends) []
 new_none queues epoch p = record {
   counted = refl;
   numbered = tt;
@@ -128,7 +128,7 @@ HavePutAs epoch p [] (c ∷ cs) = ⊥
 HavePutAs epoch p (o ∷ os) [] = ⊥
 HavePutAs epoch p (o ∷ os) (c ∷ cs) = HasPut p c.put (closed_puts c.ends) (named_ops epoch p 1 o) × HavePutAs epoch (p + 1) os cs
 
-put_at : (epoch p : ℕ) (all : ℕ → List Operation) (os : List (List Operation)) (cs : List ClosedProducerState) → ((k : ℕ) → all (p + k) ≡ get_or os k []) → HavePutAs epoch p os cs → HavePut (λ q. named_ops epoch q 1 (all q)) p cs
+pub put_at : (epoch p : ℕ) (all : ℕ → List Operation) (os : List (List Operation)) (cs : List ClosedProducerState) → ((k : ℕ) → all (p + k) ≡ get_or os k []) → HavePutAs epoch p os cs → HavePut (λ q. named_ops epoch q 1 (all q)) p cs
 put_at epoch p all [] [] e h = tt
 put_at epoch p all [] (c ∷ cs) e h = absurd h
 put_at epoch p all (o ∷ os) [] e h = absurd h

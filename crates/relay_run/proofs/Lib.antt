@@ -5,3 +5,4 @@ pub mod Texts
 pub mod Said
 pub mod Hinting
 pub mod Savers
+pub mod Numbers

@@ -16,17 +16,17 @@ is_said text old new true all failed = inr (all refl)
 is_said text old new false all failed = inl (failed refl)
 
 -- the faults of the files, and then that of the relay
-pub concludes_fault : {W : Type 0} (text : List ℕ) (before other : Exit) (r : Result (Summary W) FinishFault) (f : FinishFault) (reports : List Report) (out now err mid after : Written) (end : Exit)
+pub concludes_fault : {W : Type 0} (done : List ℕ) (text : List ℕ) (before other : Exit) (r : Result (Summary W) FinishFault) (f : FinishFault) (reports : List Report) (out now err mid after : Written) (end : Exit)
     → r ≡ Err f → IsSaid text err mid → other ≡ before → now ≡ out → IsSaid (finish_fault_text f) mid after → end ≡ worse other (exit_of_finish f.kind) → reports ≡ []
-    → Concludes text before r reports out now err after end
-concludes_fault text before other r f reports out now err mid after end is first b same second e none =
-    subst (λ x. Concludes text before x reports out now err after end) (sym is) (mid, first, second, same, e ∙ ap (λ x. worse x (exit_of_finish f.kind)) b, none)
+    → Concludes done text before r reports out now err after end
+concludes_fault done text before other r f reports out now err mid after end is first b same second e none =
+    subst (λ x. Concludes done text before x reports out now err after end) (sym is) (mid, first, second, same, e ∙ ap (λ x. worse x (exit_of_finish f.kind)) b, none)
 
 -- the faults of the files, and then the summary
-pub concludes_summary : {W V : Type 0} (items : V → List Report) (text : List ℕ) (before other : Exit) (e : Result (Summary W) FinishFault) (summary : Summary W) (out now err mid after : Written) (r : Result (Exit × V) AllocError)
-    → e ≡ Ok summary → IsSaid text err mid → other ≡ before → IfOk r (λ x. SaysSummary summary.lanes.items (items x.1) other out now mid after x.0)
-    → IfOk r (λ x. Concludes text before e (items x.1) out now err after x.0)
-concludes_summary items text before other e summary out now err mid after (Err x) is first b second = tt
-concludes_summary items text before other e summary out now err mid after (Ok x) is first b second =
-    subst (λ y. Concludes text before y (items x.1) out now err after x.0) (sym is)
-    (mid, first, subst (λ y. SaysSummary summary.lanes.items (items x.1) y out now mid after x.0) b second)
+pub concludes_summary : {W V : Type 0} (items : V → List Report) (done : List ℕ) (text : List ℕ) (before other : Exit) (e : Result (Summary W) FinishFault) (summary : Summary W) (out now err mid after : Written) (r : Result (Exit × V) AllocError)
+    → e ≡ Ok summary → IsSaid text err mid → other ≡ before → IfOk r (λ x. SaysSummary done summary.lanes.items (items x.1) other out now mid after x.0)
+    → IfOk r (λ x. Concludes done text before e (items x.1) out now err after x.0)
+concludes_summary items done text before other e summary out now err mid after (Err x) is first b second = tt
+concludes_summary items done text before other e summary out now err mid after (Ok x) is first b second =
+    subst (λ y. Concludes done text before y (items x.1) out now err after x.0) (sym is)
+    (mid, first, subst (λ y. SaysSummary done summary.lanes.items (items x.1) y out now mid after x.0) b second)

@@ -1,14 +1,13 @@
 -- What a lane is told of is what its file was given.
-use Rattle.std.proofs.Common.{◌≡◌, ℕ, ◌+◌, ◌<◌, Bool, true, false, not, IsTrue, List, [], ◌∷◌, ◌++◌, length, take, get_or, Option, Some, None, Result, Ok, Err, IfOk, IfErr, refl, sym, ap, subst, ◌∙◌, ◌⊎◌, ⊎_elim, append-nil, inl, inr, arith}
+use Rattle.std.proofs.Common.{◌≡◌, ℕ, ◌+◌, ◌<◌, Bool, true, false, not, IsTrue, List, [], ◌∷◌, ◌++◌, length, take, get_or, Option, Some, None, Result, Ok, Err, IfOk, IfErr, refl, sym, ap, subst, ◌∙◌, ◌⊎◌, ⊎_elim, append-nil, append_assoc, inl, inr, arith}
 use Rattle.std.specs.Prelude.{◌==◌, ◌||◌, flat_map, map}
 use Rattle.std.specs.Io.KnownBytes.{append_known}
+use Rattle.std.proofs.lemmas.Bool.{false≢true}
 use Rattle.std.proofs.lemmas.List.{map-append, take_more}
 use Rattle.std.proofs.lemmas.List.Concat.{flat_map-append}
 use Rattle.std.proofs.lemmas.List.Elements.{filter-append}
 use Rattle.relay_action.specs.Streams.{FailedSince}
-use Rattle.relay_action.specs.declared.mail.Mail.{Mail}
 use Rattle.relay_results.specs.Outside.{Outside}
-use Rattle.relay_results.specs.Words.{Mem}
 use Rattle.relay_results.proofs.Lists.{Mem-left, Mem-last, Mem-push_cases, some_same}
 use Rattle.relay_delivery.specs.Machine as delivery
 use Rattle.relay_core.specs.declared.config.RelayConfig.{RelayConfig}
@@ -26,7 +25,9 @@ use Rattle.relay_threads.specs.Told.{Told, applied_of, reports_of, AddsApplied, 
 use Rattle.relay_threads.specs.ToldAll.{ToldLane, AllTold}
 use Rattle.relay_run.specs.declared.report_file.ReportFile.{ReportFile}
 use Rattle.relay_run.specs.ReportFile.{AreNewHandles}
-use Rattle.relay_run.specs.Saving.{Saver, told_by, IsExactly, Keeps, KeepsTold, KeepsOneMore, AreUnwritten, AreNew, SayFailed, AllKeep, Saves, AllSave}
+use Rattle.relay_run.specs.Numbering.{report_on}
+use Rattle.relay_run.specs.Settling.{Settled, name_of, after_report}
+use Rattle.relay_run.specs.Saving.{Saver, told_by, IsExactly, BeginsWith, GoesOn, Keeps, KeepsAll, KeepsTold, KeepsOneMore, Settles, AllGoOnFrom, AreUnwritten, AreNew, SayFailed, AllKeep, Saves, AllSave}
 
 -- ---- one report
 
@@ -55,6 +56,101 @@ saved_or_failed r false line given now failures failed is all none = λ reports 
 -- nothing is saved after a failure
 pub saved_no_more : (r : Report) (given : Option (List ℕ)) (failures : ℕ) → KeepsOneMore r true true given given failures failures
 saved_no_more r given failures reports k = k
+
+-- ---- what is told as settled
+
+begins_all : (given : Option (List ℕ)) (text : List ℕ) → IsExactly given text → BeginsWith given text
+begins_all None text e = tt
+begins_all (Some w) text e = ([], e ∙ sym (append-nil text))
+
+pub begins_none : (given : Option (List ℕ)) → BeginsWith given []
+begins_none None = tt
+begins_none (Some w) = (w, refl)
+
+-- more was written
+pub goes_on : (given now : Option (List ℕ)) (sent : List ℕ) → now ≡ append_known given sent → GoesOn given now
+goes_on None now sent is text h = subst (λ (o : Option (List ℕ)). BeginsWith o text) (sym is) tt
+goes_on (Some w) now sent is text h =
+    subst (λ (o : Option (List ℕ)). BeginsWith o text) (sym is) (h.0 ++ sent, ap (λ l. l ++ sent) h.1 ∙ append_assoc text h.0 sent)
+
+pub goes_on_same : (given now : Option (List ℕ)) → now ≡ given → GoesOn given now
+goes_on_same given now is text h = subst (λ (o : Option (List ℕ)). BeginsWith o text) (sym is) h
+
+-- nothing was told yet
+pub settles_nothing : (given : Option (List ℕ)) (failures : ℕ) (before : List ℕ) (settled : Settled) → IsExactly given [] × (failures ≡ 0) → settled ≡ record { applied = []; saved = [] } → KeepsAll false given failures before [] [] settled
+settles_nothing given failures before settled new is = (
+  (new.0, new.1),
+  record {
+    saved = [];
+    others = [];
+    applies = ap (λ (s : Settled). s.applied) is;
+    reports = refl;
+    saves = ap (λ (s : Settled). s.saved) is;
+    lines = begins_none given;
+    all = λ _. refl;
+  },
+)
+
+-- more operations were applied
+pub settles_applied : (failed : Bool) (given : Option (List ℕ)) (failures : ℕ) (before : List ℕ) (old new xs : List Success) (reported : List Report) (settled after : Settled)
+    → new ≡ old ++ xs → after.applied ≡ settled.applied ++ map name_of xs → after.saved ≡ settled.saved → KeepsAll failed given failures before old reported settled → KeepsAll failed given failures before new reported after
+settles_applied failed given failures before old new xs reported settled after more applied saved k = (
+  k.0,
+  record {
+    saved = k.1.saved;
+    others = k.1.others;
+    applies = applied ∙ (ap (λ l. l ++ map name_of xs) k.1.applies ∙ (sym (map-append name_of old xs) ∙ ap (map name_of) (sym more)));
+    reports = k.1.reports;
+    saves = saved ∙ k.1.saves;
+    lines = k.1.lines;
+    all = k.1.all;
+  },
+)
+
+module _ (r : Report) (given now : Option (List ℕ)) (failures fails : ℕ) (before : List ℕ) (applied : List Success) (reported : List Report) (settled after : Settled) where
+  keeps_one : (failed later : Bool) → KeepsOneMore (report_on before r) failed later given now failures fails → Keeps failed given failures (map (report_on before) reported)
+      → Keeps later now fails (map (report_on before) (reported ++ r ∷ []))
+  keeps_one failed later one k =
+      subst (λ (l : List Report). Keeps later now fails l) (sym (map-append (report_on before) reported (r ∷ []))) (one (map (report_on before) reported) k)
+
+  -- the report was saved
+  settles_saved : Settles false given before applied reported settled → Keeps false now fails (map (report_on before) (reported ++ r ∷ [])) → after ≡ after_report false r.name settled
+      → Settles false now before applied (reported ++ r ∷ []) after
+  settles_saved s k is =
+      let whole : reported ≡ s.saved = s.reports ∙ (ap (λ l. s.saved ++ l) (s.all refl) ∙ append-nil s.saved) in record {
+        saved = reported ++ r ∷ [];
+        others = [];
+        applies = ap (λ (x : Settled). x.applied) is ∙ s.applies;
+        reports = sym (append-nil (reported ++ r ∷ []));
+        saves = ap (λ (x : Settled). x.saved) is
+            ∙ (ap (λ l. l ++ r.name ∷ []) (s.saves ∙ ap (map (λ (x : Report). x.name)) (sym whole)) ∙ sym (map-append (λ (x : Report). x.name) reported (r ∷ [])));
+        lines = begins_all now (flat_map report_line (map (report_on before) (reported ++ r ∷ []))) k.0;
+        all = λ _. refl;
+      }
+
+  -- it was not
+  settles_unsaved : (failed : Bool) → Settles failed given before applied reported settled → GoesOn given now → after ≡ after_report true r.name settled → Settles true now before applied (reported ++ r ∷ []) after
+  settles_unsaved failed s on is = record {
+    saved = s.saved;
+    others = s.others ++ r ∷ [];
+    applies = ap (λ (x : Settled). x.applied) is ∙ s.applies;
+    reports = ap (λ l. l ++ r ∷ []) s.reports ∙ append_assoc s.saved s.others (r ∷ []);
+    saves = ap (λ (x : Settled). x.saved) is ∙ s.saves;
+    lines = on (flat_map report_line (map (report_on before) s.saved)) s.lines;
+    all = λ (e : true ≡ false). absurd (false≢true (sym e));
+  }
+
+  -- one more was reported
+  pub settles_report : (failed later : Bool) → (failed ≡ true → later ≡ true) → KeepsOneMore (report_on before r) failed later given now failures fails → GoesOn given now → after ≡ after_report later r.name settled
+      → KeepsAll failed given failures before applied reported settled → KeepsAll later now fails before applied (reported ++ r ∷ []) after
+  settles_report true true stays one on is k = (keeps_one true true one k.0, settles_unsaved true k.1 on is)
+  settles_report true false stays one on is k = absurd (false≢true (stays refl))
+  settles_report false true stays one on is k = (keeps_one false true one k.0, settles_unsaved false k.1 on is)
+  settles_report false false stays one on is k = let ks = keeps_one false false one k.0 in (ks, settles_saved k.1 ks is)
+
+-- one more report was noted
+pub noted_one : (old new : List (Report × Unit {0})) (r : Report) → new ≡ old ++ (r, tt) ∷ [] → map (λ (x : Report × Unit {0}). x.0) new ≡ map (λ (x : Report × Unit {0}). x.0) old ++ r ∷ []
+noted_one old new r is = ap (map (λ (x : Report × Unit {0}). x.0)) is ∙ map-append (λ (x : Report × Unit {0}). x.0) old ((r, tt) ∷ [])
 
 -- ---- what is told
 
@@ -90,6 +186,13 @@ new_push (x ∷ ss) s new one = (new.0, new_push ss s new.1 one)
 -- one more of them
 pub new_on : (ss next : List Saver) (s : Saver) → next ≡ ss ++ s ∷ [] → AreNew ss → (s.applied ≡ []) × (s.reported ≡ []) → AreNew next
 new_on ss next s is new one = subst AreNew (sym is) (new_push ss s new one)
+
+go_on_push : (before : List ℕ) (ss : List Saver) (s : Saver) → AllGoOnFrom before ss → s.before ≡ before → AllGoOnFrom before (ss ++ s ∷ [])
+go_on_push before [] s all one = (one, tt)
+go_on_push before (x ∷ ss) s all one = (all.0, go_on_push before ss s all.1 one)
+
+pub go_on_more : (before : List ℕ) (ss next : List Saver) (s : Saver) → next ≡ ss ++ s ∷ [] → AllGoOnFrom before ss → s.before ≡ before → AllGoOnFrom before next
+go_on_more before ss next s is all one = subst (AllGoOnFrom before) (sym is) (go_on_push before ss s all one)
 
 -- the files that are left
 pub left_on : {F : Type 0} (written : F → Option (List ℕ)) (failed : F → ℕ) (left others : List F) (f : F) → left ≡ f ∷ others → AreUnwritten written failed left → (IsExactly (written f) [] × (failed f ≡ 0)) × AreUnwritten written failed others

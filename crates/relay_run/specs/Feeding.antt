@@ -1,8 +1,9 @@
 -- How a producer is fed the operations of an input.
-use Rattle.std.specs.Prelude.{◌≡◌, ℕ, ◌<◌, ◌^◌, List, [], ◌∷◌, Result, Ok, Err}
+use Rattle.std.specs.Prelude.{◌≡◌, ℕ, ◌+◌, ◌<◌, ◌^◌, List, [], ◌∷◌, ◌++◌, Result, Ok, Err}
 use Rattle.relay_action.specs.declared.action.Action.{Action}
+use Rattle.relay_action.specs.declared.action.Action.TheVariants.{Index, Delete}
 use Rattle.relay_action.specs.declared.key.DocKey.{DocKey}
-use Rattle.relay_ndjson.specs.Operations.{Operation, failed_after}
+use Rattle.relay_ndjson.specs.Operations.{Operation, failed_after, saturating_count}
 use Rattle.relay_ndjson.specs.Reading.{Reading, Takes, Ends, Fails}
 use Rattle.relay_words.specs.Taken.{TakesAll}
 use Rattle.relay_producer.specs.declared.fault.PutFaultKind.{PutFaultKind}
@@ -12,6 +13,7 @@ use Rattle.relay_run.specs.declared.feed.Next.{Next}
 use Rattle.relay_run.specs.declared.feed.Next.TheVariants as next
 use Rattle.relay_run.specs.declared.feed.FeedFault.{FeedFault}
 use Rattle.relay_run.specs.declared.feed.FeedFault.TheVariants as fault
+use Rattle.relay_run.specs.Settling.{Tellings}
 
 -- a producer that put these operations, one after another
 abbrev pub after_puts : ProducerState → List Operation → ProducerState
@@ -57,6 +59,46 @@ pub record Feeds (old new : Reading) (before after : ProducerState) (result : Re
   pub rest : Reading
   pub taken : TakesAll old rest ops
   pub stops : Stops rest new (after_puts before ops) after result
+
+-- ---- the lines that are told
+
+-- the number of the last line of an operation, given that of its action line: a source follows an index action
+abbrev pub last_line : ℕ → Action → ℕ
+last_line line (Index source) = saturating_count (line + 1)
+last_line line Delete = line
+
+-- those of operations that were taken one after another
+abbrev pub last_lines : (old new : Reading) (ops : List Operation) → TakesAll old new ops → List ℕ
+last_lines old new [] taken = []
+last_lines old new (op ∷ ops) taken = last_line taken.1.line op.1 ∷ last_lines taken.1 new ops taken.3
+
+-- that of the operation that was read, but not put, if there is one
+abbrev pub refused_line : (rest new : Reading) (fed after : ProducerState) (result : Result Unit FeedFault) → Stops rest new fed after result → List ℕ
+refused_line rest new fed after (Ok u) stops = []
+refused_line rest new fed after (Err (fault.Input e)) stops = []
+refused_line rest new fed after (Err fault.NumbersSpent) stops = last_line new.line stops.1.1 ∷ []
+refused_line rest new fed after (Err fault.LaneGone) stops = last_line new.line stops.1.1 ∷ []
+refused_line rest new fed after (Err fault.Stopped) stops = []
+
+-- that of the operation that was read in one step, if one was
+abbrev pub next_line : (old new : Reading) (before after : ProducerState) (result : Result Next FeedFault) → FeedsNext old new before after result → List ℕ
+next_line old new before after (Ok next.Put) feeds = last_line new.line feeds.1.1 ∷ []
+next_line old new before after (Ok next.Ended) feeds = []
+next_line old new before after (Err e) feeds = refused_line old new before after (Err e) feeds
+
+abbrev pub with_lines : Tellings → List ℕ → Tellings
+with_lines told lines = record told { lines = told.lines ++ lines }
+
+-- One step, in which the operation that was read, if one was, was told by its last line.
+abbrev pub FeedsTelling : Reading → Reading → ProducerState → ProducerState → (told now : Tellings) → Result Next FeedFault → Type 0
+FeedsTelling old new before after told now result =
+    (feeds : FeedsNext old new before after result) × (now ≡ with_lines told (next_line old new before after result feeds))
+
+-- The feeding, in which each operation that was read was told by its last line, in order.
+abbrev pub FeedsAllTelling : Reading → Reading → ProducerState → ProducerState → (told now : Tellings) → Result Unit FeedFault → Type 0
+FeedsAllTelling old new before after told now result =
+    (feeds : Feeds old new before after result)
+    × (now ≡ with_lines told (last_lines old feeds.rest feeds.ops feeds.taken ++ refused_line feeds.rest new (after_puts before feeds.ops) after result feeds.stops))
 
 -- the number of failed calls of the reader after this result
 abbrev pub failed_by : {T : Type 0} → Result T FeedFault → ℕ → ℕ

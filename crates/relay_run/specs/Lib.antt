@@ -14,3 +14,6 @@ pub mod LeavingOut
 pub mod ReportFile
 pub mod Resolving
 pub mod Wires
+pub mod Numbering
+pub mod Settling
+pub mod Resuming

@@ -1,9 +1,10 @@
 -- The lines at the end of a run.
-use Rattle.std.specs.Prelude.{◌≡◌, ℕ, ◌+◌, ◌*◌, ◌^◌, List, [], ◌∷◌, ◌++◌, length, codes, decimal, flat_map, IsPermutation}
+use Rattle.std.specs.Prelude.{◌≡◌, ℕ, ◌+◌, ◌*◌, ◌^◌, List, [], ◌∷◌, ◌++◌, length, codes, decimal, flat_map, map, IsPermutation}
 use Rattle.std.specs.List.Sorted.{IsNonDecreasingBy}
 use Rattle.relay_action.specs.declared.operation.OpName.{OpName}
 use Rattle.relay_core.specs.declared.report.Report.{Report}
 use Rattle.relay_ndjson.specs.Operations.{saturating_count}
+use Rattle.relay_run.specs.Numbering.{report_on}
 use Rattle.relay_words.specs.declared.exit.Exit.{Exit}
 use Rattle.relay_words.specs.declared.exit.Exit.TheVariants as exit
 use Rattle.relay_threads.specs.declared.fault.StartFault.{StartFault}
@@ -51,10 +52,10 @@ module _ {W : Type 0} where
   reports_of [] = []
   reports_of (s ∷ ss) = s.reports.items ++ reports_of ss
 
-  -- these are the reports of all lanes, in the order of their names, and the text has them and the counts of all
-  -- lanes
-  pub record TellsOf (lanes : List (LaneSummary W)) (reports : List Report) (text : List ℕ) (end : Exit) : Type 0 where
-    pub same : IsPermutation (reports_of lanes) reports
+  -- these are the reports of all lanes, under the numbers of the whole inputs and in the order of their names, and the
+  -- text has them and the counts of all lanes
+  pub record TellsOf (before : List ℕ) (lanes : List (LaneSummary W)) (reports : List Report) (text : List ℕ) (end : Exit) : Type 0 where
+    pub same : IsPermutation (map (report_on before) (reports_of lanes)) reports
     pub order : AreInOrder reports
     pub lines : text ≡ outcome_text reports (total (λ s. s.applied) 0 lanes) (total (λ s. s.already) 0 lanes)
     pub ends : end ≡ exit_of_reports (reports_of lanes)

@@ -8,7 +8,8 @@ use Rattle.relay_producer.specs.Ends.{ClosesAll}
 use Rattle.relay_producer.specs.States.{ProducerState, ClosedProducerState}
 use Rattle.relay_threads.specs.Relay.{new_producer}
 use Rattle.relay_run.specs.declared.feed.FeedFault.{FeedFault}
-use Rattle.relay_run.specs.Feeding.{Feeds}
+use Rattle.relay_run.specs.Feeding.{Feeds, FeedsAllTelling}
+use Rattle.relay_run.specs.Settling.{Tellings}
 use Rattle.relay_run.specs.Identities.{identity_of, identity_of_closed}
 
 -- operations under the names of this producer in an epoch, with the numbers n, n + 1 and so on
@@ -37,6 +38,12 @@ module _ {S : Type 0} (left : S → Option (List ℕ)) (failed : S → ℕ) (ind
   IsFedFrom None ops before after fault = (ops ≡ []) × (after ≡ before) × (fault ≡ None)
   IsFedFrom (Some reader) ops before after fault =
       (new : Reading) × (fed : Feeds (fresh (left reader) (failed reader) index) new before after (answer_of fault)) × (fed.ops ≡ ops)
+
+  -- it was fed so, and each operation that was read was told by its last line
+  abbrev pub IsFedTelling : Option S → ProducerState → ProducerState → (told now : Tellings) → Option FeedFault → Type 0
+  IsFedTelling None before after told now fault = (after ≡ before) × (fault ≡ None) × (now ≡ told)
+  IsFedTelling (Some reader) before after told now fault =
+      (new : Reading) × FeedsAllTelling (fresh (left reader) (failed reader) index) new before after told now (answer_of fault)
 
   -- the producer was fed from its reader, and closed
   pub record IsFed (reader : Option S) (before : ProducerState) (closed : ClosedProducerState) (fault : Option FeedFault) : Type 0 where

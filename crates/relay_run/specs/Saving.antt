@@ -7,16 +7,21 @@ use Rattle.relay_core.specs.declared.success.Success.{Success}
 use Rattle.relay_core.specs.Walk.{report_of}
 use Rattle.relay_report.specs.Reports.{report_line}
 use Rattle.relay_threads.specs.declared.summary.LaneSummary.{LaneSummary}
+use Rattle.relay_run.specs.Numbering.{report_on}
+use Rattle.relay_run.specs.Settling.{Settled, name_of}
 use Rattle.relay_threads.specs.Told.{Told, applied_of, reports_of}
 
 -- What was written to the file of a lane, if it shows that; how many calls of it failed; whether a write of a report
--- failed; and what the lane told of: the operations that ended as applied, and the reports, each in order.
+-- failed; how many operations of each input were settled before the run; what the lane told of: the operations that ended as
+-- applied, and the reports, each in order; and which operations it told as settled.
 pub record Saver : Type 0 where
   pub given : Option (List ℕ)
   pub failures : ℕ
   pub failed : Bool
+  pub before : List ℕ
   pub applied : List Success
   pub reported : List Report
+  pub settled : Settled
 
 -- of these, what was told of the operations of one producer
 abbrev pub told_by : Saver → ℕ → Option Told
@@ -33,13 +38,37 @@ abbrev pub Keeps : Bool → Option (List ℕ) → ℕ → List Report → Type 0
 Keeps false given failures reports = IsExactly given (flat_map report_line reports) × (failures ≡ 0)
 Keeps true given failures reports = 0 < failures
 
+-- a file was given this text first, if it shows what it was given
+abbrev pub BeginsWith : Option (List ℕ) → List ℕ → Type 0
+BeginsWith None text = Unit {0}
+BeginsWith (Some given) text = (more : List ℕ) × (given ≡ text ++ more)
+
+-- Told as settled were the operations that were applied, and of those that were reported the first ones, whose lines the
+-- file was given before anything else: all of them, unless a write of a report failed.
+pub record Settles (failed : Bool) (given : Option (List ℕ)) (before : List ℕ) (applied : List Success) (reported : List Report) (settled : Settled) : Type 0 where
+  pub saved : List Report
+  pub others : List Report
+  pub applies : settled.applied ≡ map name_of applied
+  pub reports : reported ≡ saved ++ others
+  pub saves : settled.saved ≡ map (λ r. r.name) saved
+  pub lines : BeginsWith given (flat_map report_line (map (report_on before) saved))
+  pub all : failed ≡ false → others ≡ []
+
+abbrev pub KeepsAll : Bool → Option (List ℕ) → ℕ → (before : List ℕ) → List Success → List Report → Settled → Type 0
+KeepsAll failed given failures before applied reported settled =
+    Keeps failed given failures (map (report_on before) reported) × Settles failed given before applied reported settled
+
 abbrev pub KeepsTold : Saver → Type 0
-KeepsTold s = Keeps s.failed s.given s.failures s.reported
+KeepsTold s = KeepsAll s.failed s.given s.failures s.before s.applied s.reported s.settled
 
 -- one more report was saved, or a write of it failed, or one had failed before
 abbrev pub KeepsOneMore : Report → (before after : Bool) → (given now : Option (List ℕ)) → (failures failed : ℕ) → Type 0
 KeepsOneMore r before after given now failures failed =
     (reports : List Report) → Keeps before given failures reports → Keeps after now failed (reports ++ r ∷ [])
+
+-- what a file was given first it was still given first
+abbrev pub GoesOn : Option (List ℕ) → Option (List ℕ) → Type 0
+GoesOn given now = (text : List ℕ) → BeginsWith given text → BeginsWith now text
 
 -- ---- the lanes of a run
 
@@ -52,6 +81,11 @@ AreUnwritten written failed (f ∷ fs) = (IsExactly (written f) [] × (failed f 
 abbrev pub AreNew : List Saver → Type 0
 AreNew [] = Unit {0}
 AreNew (s ∷ ss) = ((s.applied ≡ []) × (s.reported ≡ [])) × AreNew ss
+
+-- each of them numbers the operations in its reports on from these
+abbrev pub AllGoOnFrom : List ℕ → List Saver → Type 0
+AllGoOnFrom before [] = Unit {0}
+AllGoOnFrom before (s ∷ ss) = (s.before ≡ before) × AllGoOnFrom before ss
 
 -- whether a write of a report failed for one of them
 abbrev pub SayFailed : List Saver → Bool → Type 0

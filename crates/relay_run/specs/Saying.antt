@@ -35,19 +35,19 @@ exit_of_finish kind.Memory = exit.Memory
 abbrev pub failed_text : List ℕ
 failed_text = codes "write failed\n"
 
--- The summary with these reports was written, and there was no message; or a write of it failed, and there was one.
-abbrev pub SaysSummary : {W : Type 0} → List (LaneSummary W) → List Report → Exit → Written → Written → Written → Written → Exit → Type 0
-SaysSummary lanes reports before out out' err err' end =
-    (text : List ℕ) × (reported : Exit) × TellsOf lanes reports text reported
+-- The summary with these reports was written, given how many operations of each input were settled before the run, and there was no message; or a write of it failed, and there was one.
+abbrev pub SaysSummary : {W : Type 0} → List ℕ → List (LaneSummary W) → List Report → Exit → Written → Written → Written → Written → Exit → Type 0
+SaysSummary done lanes reports before out out' err err' end =
+    (text : List ℕ) × (reported : Exit) × TellsOf done lanes reports text reported
     × (((out'.0 ≡ append_known out.0 text) × (out'.1 ≡ out.1) × (err' ≡ err) × (end ≡ worse before reported))
     ⊎ (FailedSince out.1 out'.1 × IsSaid failed_text err err' × (end ≡ worse before exit.Device)))
 
 -- The faults of the files were written first, as this text. If the relay did not finish well, a message followed,
 -- nothing was written to `out`, and there are no reports; otherwise the summary was written.
-abbrev pub Concludes : {W : Type 0} → List ℕ → Exit → Result (Summary W) FinishFault → List Report → Written → Written → Written → Written → Exit → Type 0
-Concludes text before (Ok summary) reports out out' err err' end =
-    (mid : Written) × IsSaid text err mid × SaysSummary summary.lanes.items reports before out out' mid err' end
-Concludes text before (Err f) reports out out' err err' end =
+abbrev pub Concludes : {W : Type 0} → List ℕ → List ℕ → Exit → Result (Summary W) FinishFault → List Report → Written → Written → Written → Written → Exit → Type 0
+Concludes done text before (Ok summary) reports out out' err err' end =
+    (mid : Written) × IsSaid text err mid × SaysSummary done summary.lanes.items reports before out out' mid err' end
+Concludes done text before (Err f) reports out out' err err' end =
     (mid : Written) × IsSaid text err mid × IsSaid (finish_fault_text f) mid err' × (out' ≡ out) × (end ≡ worse before (exit_of_finish f.kind))
     × (reports ≡ [])
 

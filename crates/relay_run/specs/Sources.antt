@@ -1,5 +1,5 @@
 -- Where the operations of a producer are read from.
-use Rattle.std.specs.Prelude.{ℕ, ◌==◌, List, Bool, true, false, not, ◌&&◌, Option, None, Some, codes, bytes_eq, count_by}
+use Rattle.std.specs.Prelude.{ℕ, ◌==◌, List, Bool, true, false, not, ◌&&◌, Option, None, Some, is_some, nat_le, length, codes, bytes_eq, count_by}
 use Rattle.relay_run.specs.declared.source.Source.{Source}
 use Rattle.relay_run.specs.declared.source.Source.TheVariants as source
 
@@ -32,3 +32,9 @@ is_given name (Some path) = bytes_eq path name
 abbrev pub leaves_apart : Option (List ℕ) → Option (List ℕ) → List (List ℕ) → Bool
 leaves_apart None report names = true
 leaves_apart (Some path) report names = stands_apart (Some path) names && not (is_given path report)
+
+-- whether a run may have a state at this path, if it has one: there is a file for the reports, neither are invalid operations
+-- left out nor is the epoch taken from the index, there are at most 16 files, and no two of these paths are the same
+abbrev pub may_resume : Option (List ℕ) → Option (List ℕ) → Bool → List (List ℕ) → Bool
+may_resume None report differs names = true
+may_resume (Some path) report differs names = not differs && is_some report && nat_le (length names) 16 && leaves_apart (Some path) report names

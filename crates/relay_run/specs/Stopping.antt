@@ -29,6 +29,7 @@ stop_by cause.Spent applied limit reported = at_limit limit reported
 abbrev pub code_of : StopReason → ℕ
 code_of reason.Reports = 1
 code_of (reason.Hopeless status) = status + 2
+code_of reason.Until = 65538
 
 -- ---- at the end
 
@@ -37,6 +38,8 @@ abbrev pub reason_said : Option StopReason → Bool → Bool → Option StopReas
 reason_said None cut applied = None
 reason_said (Some reason.Reports) true applied = Some reason.Reports
 reason_said (Some reason.Reports) false applied = None
+reason_said (Some reason.Until) true applied = Some reason.Until
+reason_said (Some reason.Until) false applied = None
 reason_said (Some (reason.Hopeless status)) true applied = Some (reason.Hopeless status)
 reason_said (Some (reason.Hopeless status)) false true = None
 reason_said (Some (reason.Hopeless status)) false false = Some (reason.Hopeless status)
@@ -44,8 +47,10 @@ reason_said (Some (reason.Hopeless status)) false false = Some (reason.Hopeless 
 abbrev pub stop_text : ℕ → StopReason → List ℕ
 stop_text limit reason.Reports = codes "stopped after " ++ decimal limit ++ codes " reports: --max-reports\n"
 stop_text limit (reason.Hopeless status) = codes "stopped: the index answered a whole request with " ++ decimal status ++ codes " before it had applied anything\n"
+stop_text limit reason.Until = codes "stopped: --until\n"
 
--- an index that nothing can be sent to counts as a device fault
+-- an index that nothing can be sent to counts as a device fault; a stop that was asked for is none
 abbrev pub exit_of_stop : StopReason → Exit
 exit_of_stop reason.Reports = exit.Reported
 exit_of_stop (reason.Hopeless status) = exit.Device
+exit_of_stop reason.Until = exit.Done

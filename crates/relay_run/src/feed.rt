@@ -2,8 +2,10 @@
 ghost use Rattle.std.specs.Prelude.{◌≡◌, ◌≢◌, IfErr, IsTrue, is_some};
 ghost use Rattle.relay_ndjson.specs.declared.parser.Phase.TheVariants as phase;
 ghost use Rattle.relay_producer.specs.Ends.{identities, open_puts};
-ghost use Rattle.relay_run.specs.Feeding.{Feeds, FeedsNext, Puts, failed_by, fault_of};
+ghost use Rattle.relay_run.specs.Feeding.{FeedsAllTelling, FeedsTelling, Puts, failed_by};
+ghost use Rattle.relay_run.specs.Feeding.{fault_of, last_line};
 
+use crate::settling::Telling;
 use crate::stopping::{SharedStop, is_stopped};
 use relay_action::{Action, ByteIn, DocKey};
 use relay_ndjson::{Input, InputFault};
@@ -25,16 +27,19 @@ pub enum FeedFault {
 }
 
 /// Puts the operations of an input, in order, until there are no more, there is a fault, or the run
-/// is to stop, which it looks at before each. The producer is not closed. It waits for the input, and
-/// while the queue of an operation's lane is full.
+/// is to stop, which it looks at before each. It tells each operation before it is put, by the number of
+/// its last line. The producer is not closed. It waits for the input, and while the queue of an operation's lane is full.
 pub fn feed<R: Wait, S: ByteIn>(
     rt: &R,
     input: &mut Input<'_, S>,
     producer: &mut Producer,
     stop: &Option<SharedStop>,
+    telling: &mut Telling,
 ) -> Result<(), FeedFault>
     requires { input.old.phase ≡ phase.Open }
-    ensures feeds { Feeds input.old input.new producer.old producer.new result }
+    ensures feeds { FeedsAllTelling input.old input.new producer.old producer.new telling.old
+        telling.new
+        result }
     ensures failed { input.new.failed ≡ failed_by result input.old.failed }
     ensures same { identities (open_puts producer.new.ends)
         ≡ identities (open_puts producer.old.ends) }
@@ -45,7 +50,7 @@ pub fn feed<R: Wait, S: ByteIn>(
         if is_stopped(stop) {
             return Err(FeedFault::Stopped);
         }
-        match feed_next(rt, input, producer)? {
+        match feed_next(rt, input, producer, telling)? {
             Next::Put => {}
             Next::Ended => return Ok(()),
         }
@@ -66,9 +71,12 @@ fn feed_next<R: Wait, S: ByteIn>(
     rt: &R,
     input: &mut Input<'_, S>,
     producer: &mut Producer,
+    telling: &mut Telling,
 ) -> Result<Next, FeedFault>
     requires { input.old.phase ≡ phase.Open }
-    ensures next { FeedsNext input.old input.new producer.old producer.new result }
+    ensures next { FeedsTelling input.old input.new producer.old producer.new telling.old
+        telling.new
+        result }
     ensures reads { IfErr result (λ e. e ≢ FeedFault.Stopped) }
     ensures failed { input.new.failed ≡ failed_by result input.old.failed }
     ensures same { identities (open_puts producer.new.ends)
@@ -76,11 +84,22 @@ fn feed_next<R: Wait, S: ByteIn>(
 {
     match input.next() {
         Ok(Some((key, action))) => {
+            telling.put(rt, last_line(input.line(), &action));
             put(rt, producer, key, action)?;
             Ok(Next::Put)
         }
         Ok(None) => Ok(Next::Ended),
         Err(fault) => Err(FeedFault::Input(fault)),
+    }
+}
+
+// The number of the last line of an operation, given that of its action line.
+fn last_line(line: u64, action: &Action) -> u64
+    ensures { result ≡ last_line line action.now }
+{
+    match action {
+        Action::Index(_) => line.saturating_add(1),
+        Action::Delete => line,
     }
 }
 

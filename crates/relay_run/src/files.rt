@@ -1,28 +1,34 @@
 //! Sending files of operations to an index: the function behind `relay run`.
-ghost use Rattle.std.specs.Prelude.{◌≡◌, IfOk, IsTrue, string_bytes, vec_len};
+ghost use Rattle.std.specs.Prelude.{◌≡◌, IfOk, IfSome, IsTrue, length, string_bytes, vec_len};
 ghost use Rattle.relay_http.specs.WrittenRequest.{is_host};
 ghost use Rattle.relay_run.specs.ReportFile.{AreNewHandles};
 ghost use Rattle.relay_run.specs.Saving.{AreNew};
 
+use crate::keeping::{Keeper, Keeping, end_keeping, kept_of, start_keeping};
 use crate::leasing::{config_of, say_no_epoch};
 use crate::noting::{Opened, SharedNote};
-use crate::opening::{make_readers, notes_of, open_files, whole_size};
+use crate::numbering::Numbering;
+use crate::opening::{Reader, ReaderOptions, make_readers, notes_of, whole_size};
 use crate::options::RunOptions;
-use crate::report_file::{
-    FileOption, ReportFileFault, ReportOut, handles_of, open_report, say_refused,
-};
+use crate::producing::own_text;
+use crate::report_file::ReportOut;
 use crate::resolving::{is_known, say_unknown};
-use crate::run::run;
-use crate::saying::{are_opened, say_notes, say_ran, say_start};
+use crate::resuming::{Resumed, START, say_resumed};
+use crate::run::Ran;
+use crate::saying::{are_opened, say_left, say_notes, say_ran, say_start};
+use crate::settling::{Settling, SharedSettling, share_settling};
 use crate::skipping::{LeavingOut, sift_readers};
-use crate::stopping::{SharedStop, Stop};
+use crate::starting::{Devices, open_devices, say_not_started};
+use crate::stopping::{SharedStop, Stop, share_stop};
 use crate::telling::{SavingTell, make_tells};
+use crate::waiting::{Job, run_until};
 use crate::watching::{Counters, counters_of, share, start_watch, stop_watch};
-use crate::wiring::{count_wires, make_paces, make_wires};
+use crate::wiring::{RunPace, RunWire, count_wires, make_paces, make_wires};
 use relay_action::{ByteIn, ByteOut, write_all};
 use relay_lane::RelayConfig;
 use relay_progress::Show;
-use relay_sift::SiftNotes;
+use relay_resume::Mark;
+use relay_threads::StartFault;
 use relay_words::Exit;
 use std::alloc::{AllocError, Global};
 use std::io::IsTerminal;
@@ -30,14 +36,221 @@ use std::sync::{Arc, Wait};
 use std::thread::Threads;
 use std::time::Clock;
 
-// What the lanes of a run tell by, what may stop it, and its counts.
+// What the threads of a run share.
+#[derive(Drop)]
+struct Common {
+    // What may stop it.
+    stop: Option<SharedStop>,
+    // Whom they tell how far the files are settled, if anybody.
+    settling: Option<SharedSettling>,
+    counters: Counters,
+    // The epoch, if it is that of a state.
+    epoch: Option<u32>,
+    // Where the files are read from.
+    starts: Vec<Mark>,
+}
+
+// What the lanes of a run tell by, what its threads share, and what is known of each file.
+#[derive(Drop)]
+struct Lanes {
+    tells: Vec<SavingTell<ReportOut>>,
+    common: Common,
+    notes: Vec<SharedNote>,
+    show: Show,
+}
+
+// The wires and paces of a run, and what its lanes and producers are given.
+fn job_of<S>(
+    host: HostRuntime,
+    alloc: Global,
+    options: &RunOptions,
+    config: RelayConfig,
+    tells: Vec<SavingTell<ReportOut>>,
+    readers: Vec<Option<S>>,
+    counters: &Counters,
+) -> Result<Job<RunWire, RunPace, S, ReportOut>, AllocError>
+where
+    S: ByteIn + Drop,
+    requires host { IsTrue (is_host (string_bytes options.now.to)) }
+    requires new { AreNew tells.items }
+    ensures { IfOk result (λ j. j ≡ config) }
+{
+    let wires = make_wires(host, alloc, options, &counters.dials)?;
+    let wires = count_wires(alloc, wires, &counters.wires)?;
+    let paces = make_paces(host, alloc, options.config.lanes)?;
+    Ok(Job::new(config, wires, paces, tells, readers))
+}
+
+// Writes how a run has ended, and returns the exit status.
+fn say_end<W: Drop, O: ByteOut, E: ByteOut>(
+    alloc: Global,
+    options: &RunOptions,
+    epoch: u32,
+    opened: &[bool],
+    notes: &[SharedNote],
+    common: &Common,
+    ran: Option<Result<Ran<W, ReportOut>, StartFault>>,
+    out: &mut O,
+    err: &mut E,
+) -> Result<Exit, AllocError>
+    requires opened { length opened.now ≡ vec_len options.now.files }
+    requires notes { length notes.now ≡ vec_len options.now.files }
+    requires stops { IfSome ran (λ o. IfOk o (λ r. vec_len r.faults
+        ≡ vec_len options.now.files)) }
+{
+    let starts = &common.starts;
+    match ran {
+        Some(Ok(ran)) => say_ran(
+            alloc,
+            options,
+            epoch,
+            opened,
+            notes,
+            starts,
+            ran,
+            &common.stop,
+            out,
+            err,
+        ),
+        Some(Err(fault)) => Ok(say_start(fault, err)),
+        None => Ok(say_left(err)),
+    }
+}
+
+// Runs these readers over TCP with this config, and writes the outcome.
+fn run_readers<R, S, O, E>(
+    rt: R,
+    host: HostRuntime,
+    options: &RunOptions,
+    config: RelayConfig,
+    readers: Vec<Option<S>>,
+    lanes: Lanes,
+    out: &mut O,
+    err: &mut E,
+) -> Result<Exit, AllocError>
+where
+    R: Threads + Wait + Clock + Copy + Send + 'static,
+    S: ByteIn + Drop + Send + 'static,
+    O: ByteOut,
+    E: ByteOut,
+    requires host { IsTrue (is_host (string_bytes options.now.to)) }
+    requires files { vec_len options.now.files ≡ config.producers }
+    requires readers { vec_len readers ≡ vec_len options.now.files }
+    requires notes { vec_len lanes.notes ≡ vec_len options.now.files }
+    requires new { AreNew lanes.tells.items }
+{
+    let alloc = host.alloc();
+    let Lanes {
+        tells,
+        common,
+        notes,
+        show,
+    } = lanes;
+    let opened = are_opened(alloc, &readers)?;
+    let job = job_of(
+        host,
+        alloc,
+        options,
+        config,
+        tells,
+        readers,
+        &common.counters,
+    )?;
+    let watch = start_watch(rt, host, alloc, show, share(&common.counters.dials)?)?;
+    let index = options.index.as_deref();
+    let limit = options.until.as_ref().map(|_| options.timeout);
+    let ran = run_until(rt, alloc, job, index, &common.stop, &common.settling, limit);
+    stop_watch(&rt, watch);
+    say_end(
+        alloc,
+        options,
+        config.epoch,
+        &opened,
+        &notes,
+        &common,
+        ran?,
+        out,
+        err,
+    )
+}
+
+// Runs these readers without invalid operations, and says how many were left out.
+fn run_sifted<R, O, E>(
+    rt: R,
+    host: HostRuntime,
+    options: &RunOptions,
+    config: RelayConfig,
+    readers: Vec<Option<Reader<R>>>,
+    leaving: LeavingOut<ReportOut>,
+    lanes: Lanes,
+    out: &mut O,
+    err: &mut E,
+) -> Result<Exit, AllocError>
+where
+    R: Threads + Wait + Clock + Copy + Send + 'static,
+    O: ByteOut,
+    E: ByteOut,
+    requires host { IsTrue (is_host (string_bytes options.now.to)) }
+    requires files { vec_len options.now.files ≡ config.producers }
+    requires readers { vec_len readers ≡ vec_len options.now.files }
+    requires notes { vec_len lanes.notes ≡ vec_len options.now.files }
+    requires new { AreNew lanes.tells.items }
+{
+    let alloc = host.alloc();
+    let left_out = Arc::try_clone(&leaving.notes)?;
+    let sifted = sift_readers(alloc, readers, leaving, options.index.as_deref())?;
+    let exit = run_readers(rt, host, options, config, sifted, lanes, out, err)?;
+    say_notes(alloc, options, exit, &left_out, err)
+}
+
+// What the lanes of a run tell by, what its threads share, and where the lines of invalid operations
+// go, if these are left out.
 #[derive(Drop)]
 struct Telling {
     tells: Vec<SavingTell<ReportOut>>,
-    stop: Option<SharedStop>,
-    counters: Counters,
-    // Where the lines of invalid operations go, if these are left out.
+    common: Common,
     leaving: Option<LeavingOut<ReportOut>>,
+}
+
+// What is shown of the progress of a run with this config.
+fn show_of(
+    host: HostRuntime,
+    alloc: Global,
+    options: &RunOptions,
+    config: RelayConfig,
+    sources: &[Opened],
+    starts: &[Mark],
+) -> Result<Show, AllocError> {
+    Ok(Show {
+        lines: options.progress,
+        over: host.stderr().is_terminal(),
+        address: String::from_str(alloc, options.to.as_str())?,
+        size: whole_size(sources, starts),
+        log: options.log,
+        epoch: config.epoch,
+        lanes: config.lanes,
+    })
+}
+
+// The readers of these files.
+fn readers_of<R>(
+    rt: R,
+    alloc: Global,
+    options: &RunOptions,
+    sources: Vec<Opened>,
+    common: &Common,
+) -> Result<Vec<Option<Reader<R>>>, AllocError>
+where
+    R: Threads + Wait + Clock + Copy + Send + 'static,
+    ensures { IfOk result (λ v. vec_len v ≡ vec_len sources) }
+{
+    let reading = ReaderOptions {
+        counts: share(&common.counters.readers)?,
+        settling: share_settling(&common.settling)?,
+        stop: share_stop(&common.stop)?,
+        waits: options.until.is_some(),
+    };
+    make_readers(rt, alloc, sources, &reading)
 }
 
 // Runs the files over TCP with this config, and writes the outcome.
@@ -63,110 +276,32 @@ where
     let alloc = host.alloc();
     let Telling {
         tells,
-        stop,
-        counters,
+        common,
         leaving,
     } = telling;
-    let show = Show {
-        lines: options.progress,
-        over: host.stderr().is_terminal(),
-        address: String::from_str(alloc, options.to.as_str())?,
-        size: whole_size(&sources),
-        log: options.log,
-        epoch: config.epoch,
-        lanes: config.lanes,
-    };
+    let show = show_of(host, alloc, options, config, &sources, &common.starts)?;
     let notes = notes_of(alloc, &sources)?;
-    let readers = make_readers(alloc, sources, &counters.readers)?;
-    let index = options.index.as_deref();
-    let telling = Lanes {
+    let readers = readers_of(rt, alloc, options, sources, &common)?;
+    let lanes = Lanes {
         tells,
-        stop,
-        counters,
+        common,
         notes,
+        show,
     };
     match leaving {
         Some(leaving) => {
-            let left_out = Arc::try_clone(&leaving.notes)?;
-            let sifted = sift_readers(alloc, readers, leaving, index)?;
-            let exit = run_readers(rt, host, options, config, sifted, telling, show, out, err)?;
-            say_notes(alloc, options, exit, &left_out, err)
+            run_sifted(rt, host, options, config, readers, leaving, lanes, out, err)
         }
-        None => run_readers(rt, host, options, config, readers, telling, show, out, err),
+        None => run_readers(rt, host, options, config, readers, lanes, out, err),
     }
 }
 
-// What the lanes of a run tell by, what may stop it, its counts, and what is known of each file.
-#[derive(Drop)]
-struct Lanes {
-    tells: Vec<SavingTell<ReportOut>>,
-    stop: Option<SharedStop>,
-    counters: Counters,
-    notes: Vec<SharedNote>,
-}
-
-// Runs these readers over TCP with this config, and writes the outcome.
-fn run_readers<R, S, O, E>(
-    rt: R,
-    host: HostRuntime,
-    options: &RunOptions,
-    config: RelayConfig,
-    readers: Vec<Option<S>>,
-    lanes: Lanes,
-    show: Show,
-    out: &mut O,
-    err: &mut E,
-) -> Result<Exit, AllocError>
-where
-    R: Threads + Wait + Clock + Copy + Send + 'static,
-    S: ByteIn + Drop + Send + 'static,
-    O: ByteOut,
-    E: ByteOut,
-    requires host { IsTrue (is_host (string_bytes options.now.to)) }
-    requires files { vec_len options.now.files ≡ config.producers }
-    requires readers { vec_len readers ≡ vec_len options.now.files }
-    requires notes { vec_len lanes.notes ≡ vec_len options.now.files }
-    requires new { AreNew lanes.tells.items }
-{
-    let alloc = host.alloc();
-    let Lanes {
-        tells,
-        stop,
-        counters,
-        notes,
-    } = lanes;
-    let wires = make_wires(host, alloc, options, &counters.dials)?;
-    let wires = count_wires(alloc, wires, &counters.wires)?;
-    let paces = make_paces(host, alloc, options.config.lanes)?;
-    let opened = are_opened(alloc, &readers)?;
-    let watch = start_watch(rt, host, alloc, show, counters.dials)?;
-    let index = options.index.as_deref();
-    let ran = run(
-        rt, alloc, config, wires, paces, tells, readers, index, &stop,
-    );
-    stop_watch(&rt, watch);
-    match ran {
-        Ok(ran) => say_ran(
-            alloc,
-            options,
-            config.epoch,
-            &opened,
-            &notes,
-            ran,
-            &stop,
-            out,
-            err,
-        ),
-        Err(fault) => Ok(say_start(fault, err)),
-    }
-}
-
-// Opens the files, and then does the same in the epoch of the run. If there is none, nothing is
-// sent.
+// Does the same in the epoch of the run. If there is none, nothing is sent.
 fn run_in_epoch<R, O, E>(
     rt: R,
     host: HostRuntime,
     options: &RunOptions,
+    sources: Vec<Opened>,
     telling: Telling,
     out: &mut O,
     err: &mut E,
@@ -177,68 +312,179 @@ where
     E: ByteOut,
     requires host { IsTrue (is_host (string_bytes options.now.to)) }
     requires files { vec_len options.now.files ≡ options.now.config.producers }
+    requires sources { vec_len sources ≡ vec_len options.now.files }
     requires new { AreNew telling.tells.items }
 {
     let alloc = host.alloc();
-    let sources = open_files(&host, alloc, &options.files)?;
+    if let Some(epoch) = telling.common.epoch {
+        let config = RelayConfig {
+            epoch,
+            ..options.config
+        };
+        return run_said(rt, host, options, config, sources, telling, out, err);
+    }
     match config_of(host, alloc, options) {
         Ok(config) => run_said(rt, host, options, config, sources, telling, out, err),
         Err(fault) => say_no_epoch(alloc, &fault, err),
     }
 }
 
-// Opens the file for the reports, if they are saved, with a handle for each lane.
-fn open_handles(
-    host: &HostRuntime,
+// Where the files are read from: from their starts on without a state.
+fn starts_of(
     alloc: Global,
-    options: &RunOptions,
-) -> Result<Vec<ReportOut>, ReportFileFault>
-    ensures { IfOk result (λ v. AreNewHandles v.items) }
-{
-    let file = match &options.report {
-        Some(name) => Some(open_report(
-            host,
-            alloc,
-            name.as_str(),
-            options.append,
-            &options.files,
-        )?),
-        None => None,
-    };
-    handles_of(alloc, &file, options.config.lanes)
+    resumed: &Option<Resumed>,
+    files: usize,
+) -> Result<Vec<Mark>, AllocError> {
+    let mut starts = Vec::new(alloc);
+    match resumed {
+        Some(resumed) => starts.extend_from_slice(&resumed.starts)?,
+        None => {
+            for _ in 0..files {
+                starts.push(START)?;
+            }
+        }
+    }
+    Ok(starts)
 }
 
-// The paths that the file for invalid operations may not be: those that are read, and that for the
-// reports.
-fn taken_paths(alloc: Global, options: &RunOptions) -> Result<Vec<String>, AllocError> {
-    let mut paths = Vec::new(alloc);
-    for path in &options.files {
-        paths.push(String::from_str(alloc, path.as_str())?)?;
+// Whom the threads of a run tell how far the files are settled, which is kept in a state if there is
+// one.
+fn settling_of(
+    alloc: Global,
+    resumed: &Option<Resumed>,
+    starts: &[Mark],
+) -> Result<Option<SharedSettling>, AllocError> {
+    match resumed {
+        Some(_) => Ok(Some(Settling::shared(alloc, starts)?)),
+        None => Ok(None),
     }
-    if let Some(path) = &options.report {
-        paths.push(String::from_str(alloc, path.as_str())?)?;
-    }
-    Ok(paths)
 }
 
-// Opens the file for the lines of invalid operations, if these are left out, with a handle for each
-// file that is read.
-fn open_leaving(
-    host: &HostRuntime,
+// What the threads of a run share.
+fn common_of(
+    host: HostRuntime,
     alloc: Global,
     options: &RunOptions,
-) -> Result<Option<LeavingOut<ReportOut>>, ReportFileFault> {
-    let Some(name) = &options.skip_invalid else {
+    resumed: &Option<Resumed>,
+    files: usize,
+) -> Result<Common, AllocError> {
+    let terminal = host.stderr().is_terminal();
+    let counters = counters_of(alloc, options.progress, options.log, terminal)?;
+    let conflicts = share(&counters.wires)?;
+    let stop = Stop::shared(alloc, options.max_reports as u64, conflicts)?;
+    let starts = starts_of(alloc, resumed, files)?;
+    let settling = settling_of(alloc, resumed, &starts)?;
+    Ok(Common {
+        stop: Some(stop),
+        settling,
+        counters,
+        epoch: resumed.as_ref().map(Resumed::epoch),
+        starts,
+    })
+}
+
+// What the thread beside a run does, if there is anything to keep or to look for.
+fn keeper_of(
+    host: HostRuntime,
+    alloc: Global,
+    options: &RunOptions,
+    resumed: Option<Resumed>,
+    common: &Common,
+) -> Result<Option<Keeper>, AllocError> {
+    let kept = kept_of(resumed, &common.settling)?;
+    let until = own_text(alloc, options.until.as_deref())?;
+    if kept.is_none() && until.is_none() {
         return Ok(None);
-    };
-    let paths = taken_paths(alloc, options)?;
-    let file = Some(open_report(host, alloc, name.as_str(), options.append, &paths)?);
-    let files = handles_of(alloc, &file, options.config.producers)?;
-    let notes = SiftNotes::shared(alloc)?;
-    Ok(Some(LeavingOut { files, notes }))
+    }
+    let stop = share_stop(&common.stop)?;
+    Ok(Some(Keeper::new(host, kept, until, stop)))
 }
 
-// Looks up the address, opens the files to write, if asked for, and does the same.
+// Starts that thread, if it does anything.
+fn keep_beside<R>(
+    rt: R,
+    host: HostRuntime,
+    alloc: Global,
+    options: &RunOptions,
+    resumed: Option<Resumed>,
+    common: &Common,
+) -> Result<Option<Keeping>, AllocError>
+where
+    R: Threads + Wait + Clock + Copy + Send + 'static,
+{
+    match keeper_of(host, alloc, options, resumed, common)? {
+        Some(keeper) => Ok(Some(start_keeping(rt, alloc, keeper)?)),
+        None => Ok(None),
+    }
+}
+
+// Runs these files, whose reports go to these handles.
+fn run_telling<R, O, E>(
+    rt: R,
+    host: HostRuntime,
+    options: &RunOptions,
+    handles: Vec<ReportOut>,
+    leaving: Option<LeavingOut<ReportOut>>,
+    sources: Vec<Opened>,
+    common: Common,
+    out: &mut O,
+    err: &mut E,
+) -> Result<Exit, AllocError>
+where
+    R: Threads + Wait + Clock + Copy + Send + 'static,
+    O: ByteOut,
+    E: ByteOut,
+    requires host { IsTrue (is_host (string_bytes options.now.to)) }
+    requires files { vec_len options.now.files ≡ options.now.config.producers }
+    requires sources { vec_len sources ≡ vec_len options.now.files }
+    requires handles { AreNewHandles handles.items }
+{
+    let alloc = host.alloc();
+    let numbering = Numbering::of(&common.starts);
+    let tells = make_tells(alloc, handles, numbering, &common.stop, &common.settling)?;
+    let telling = Telling {
+        tells,
+        common,
+        leaving,
+    };
+    run_in_epoch(rt, host, options, sources, telling, out, err)
+}
+
+// Runs these files, and keeps the state meanwhile.
+fn run_kept<R, O, E>(
+    rt: R,
+    host: HostRuntime,
+    options: &RunOptions,
+    devices: Devices,
+    out: &mut O,
+    err: &mut E,
+) -> Result<Exit, AllocError>
+where
+    R: Threads + Wait + Clock + Copy + Send + 'static,
+    O: ByteOut,
+    E: ByteOut,
+    requires host { IsTrue (is_host (string_bytes options.now.to)) }
+    requires files { vec_len options.now.files ≡ options.now.config.producers }
+    requires sources { vec_len devices.sources ≡ vec_len options.now.files }
+    requires handles { AreNewHandles devices.handles.items }
+{
+    let alloc = host.alloc();
+    let Devices {
+        handles,
+        leaving,
+        sources,
+        resumed,
+    } = devices;
+    let common = common_of(host, alloc, options, &resumed, sources.len())?;
+    say_resumed(alloc, &options.files, &common.starts, err)?;
+    let keeping = keep_beside(rt, host, alloc, options, resumed, &common)?;
+    let exit = run_telling(
+        rt, host, options, handles, leaving, sources, common, out, err,
+    )?;
+    end_keeping(&rt, alloc, keeping, exit, err)
+}
+
+// Looks up the address, opens the files, and does the same.
 fn run_all<R, O, E>(
     rt: R,
     host: HostRuntime,
@@ -257,32 +503,10 @@ where
     if !is_known(&host, options.to.as_str(), options.patience) {
         return say_unknown(alloc, options.to.as_str(), err);
     }
-    let handles = match open_handles(&host, alloc, options) {
-        Ok(handles) => handles,
-        Err(fault) => {
-            let name = options.report.as_deref().unwrap_or("");
-            return say_refused(alloc, FileOption::Report, name, fault, err);
-        }
-    };
-    let leaving = match open_leaving(&host, alloc, options) {
-        Ok(leaving) => leaving,
-        Err(fault) => {
-            let name = options.skip_invalid.as_deref().unwrap_or("");
-            return say_refused(alloc, FileOption::SkipInvalid, name, fault, err);
-        }
-    };
-    let terminal = host.stderr().is_terminal();
-    let counters = counters_of(alloc, options.progress, options.log, terminal)?;
-    let conflicts = share(&counters.wires)?;
-    let stop = Some(Stop::shared(alloc, options.max_reports as u64, conflicts)?);
-    let tells = make_tells(alloc, handles, &stop)?;
-    let telling = Telling {
-        tells,
-        stop,
-        counters,
-        leaving,
-    };
-    run_in_epoch(rt, host, options, telling, out, err)
+    match open_devices(host, alloc, options) {
+        Ok(devices) => run_kept(rt, host, options, devices, out, err),
+        Err(fault) => say_not_started(alloc, options, fault, err),
+    }
 }
 
 /// Writes the operations of the files to the index, each file with its own producer (`-` is
@@ -322,7 +546,7 @@ where
     if !options.is_valid() || !options.reads_input_once() {
         return Exit::Usage;
     }
-    if !options.saves_apart() || !options.leaves_apart() {
+    if !options.saves_apart() || !options.leaves_apart() || !options.may_resume() {
         return Exit::Usage;
     }
     match run_all(rt, host, options, out, err) {

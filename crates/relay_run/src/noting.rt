@@ -119,6 +119,11 @@ impl FileNote {
         let _ = self.reason.try_set(reason);
     }
 
+    /// Whether the file could not be opened or read.
+    pub(crate) fn has_failed(&self) -> bool {
+        self.reason.get().is_some()
+    }
+
     // Notes what was read, unless it can be read again.
     fn keep(&self, piece: &[u8]) {
         if self.regular.is_some() {
@@ -182,6 +187,17 @@ impl NotedSource {
     /// The size in bytes, as [`Source::size`].
     pub(crate) fn size(&self) -> Option<u64> {
         self.source.size()
+    }
+
+    /// The file, if it is a regular one.
+    pub(crate) fn regular_file(&mut self) -> Option<&mut File> {
+        if self.source.size().is_none() {
+            return None;
+        }
+        match &mut self.source {
+            Source::File(file) => Some(file),
+            Source::Pipe(_) | Source::Standard(_) => None,
+        }
     }
 }
 

@@ -2,13 +2,19 @@
 ghost use Rattle.std.specs.Prelude.{◌≡◌, IfOk, length, vec_len};
 
 use crate::noting::{FileNote, NotedSource, Opened, SharedNote};
+use crate::pumping::ToldSource;
+use crate::settling::{SharedSettling, Telling, producer_at, share_settling};
 use crate::source::open_source;
+use crate::stopping::{SharedStop, share_stop};
 use crate::watching::share;
 use relay_action::StdStream;
 use relay_progress::{CountedReader, Shared};
+use relay_resume::Mark;
 use std::alloc::{AllocError, Global};
 use std::io::ErrorKind;
-use std::sync::Arc;
+use std::sync::{Arc, Wait};
+use std::thread::Threads;
+use std::time::Clock;
 
 // Opens the file with this name, or standard input for `-`.
 fn open_file(rt: &HostRuntime, alloc: Global, file: &str) -> Result<Opened, AllocError> {
@@ -44,14 +50,17 @@ pub(crate) fn open_files(
     Ok(sources)
 }
 
-/// Their total size in bytes, if the size of each is known. A file that could not be opened counts
-/// as empty.
-pub(crate) fn whole_size(sources: &[Opened]) -> Option<u64> {
+/// The total size in bytes of what they have after these marks, if the size of each is known. A file
+/// that could not be opened counts as empty.
+pub(crate) fn whole_size(sources: &[Opened], starts: &[Mark]) -> Option<u64> {
     let mut size = 0u64;
     for opened in sources {
         if let Some(source) = &opened.source {
             size = size.saturating_add(source.size()?);
         }
+    }
+    for start in starts {
+        size = size.saturating_sub(start.offset);
     }
     Some(size)
 }
@@ -68,27 +77,61 @@ pub(crate) fn notes_of(alloc: Global, sources: &[Opened]) -> Result<Vec<SharedNo
 }
 
 /// A counted reader of a file.
-pub(crate) type Reader = CountedReader<StdStream<NotedSource>>;
+pub(crate) type Reader<R> = CountedReader<StdStream<ToldSource<R>>>;
+
+/// What the readers of a run are told, and tell.
+#[derive(Drop)]
+pub(crate) struct ReaderOptions {
+    /// Where what they read is counted, if it is.
+    pub counts: Option<Shared>,
+    /// Whom they tell what they read, if anybody.
+    pub settling: Option<SharedSettling>,
+    /// What may stop them.
+    pub stop: Option<SharedStop>,
+    /// Whether it may stop them while they wait for a file.
+    pub waits: bool,
+}
 
 /// A reader for each file that could be opened. `AllocError`: allocation failed.
-pub(crate) fn make_readers(
+pub(crate) fn make_readers<R>(
+    rt: R,
     alloc: Global,
     sources: Vec<Opened>,
-    counts: &Option<Shared>,
-) -> Result<Vec<Option<Reader>>, AllocError>
+    options: &ReaderOptions,
+) -> Result<Vec<Option<Reader<R>>>, AllocError>
+where
+    R: Threads + Wait + Clock + Copy + Send + 'static,
     ensures { IfOk result (λ v. vec_len v ≡ vec_len sources) }
 {
     let mut readers = Vec::new(alloc);
     for opened in sources {
-        let Opened {
-            source,
-            note: _note,
-        } = opened;
-        let reader = match source {
-            Some(source) => Some(CountedReader::new(StdStream::new(source), share(counts)?)),
-            None => None,
-        };
-        readers.push(reader)?;
+        let producer = producer_at(readers.len());
+        readers.push(make_reader(rt, alloc, producer, opened, options)?)?;
     }
     Ok(readers)
+}
+
+// A reader for this producer, if its file could be opened.
+fn make_reader<R>(
+    rt: R,
+    alloc: Global,
+    producer: u32,
+    opened: Opened,
+    options: &ReaderOptions,
+) -> Result<Option<Reader<R>>, AllocError>
+where
+    R: Threads + Wait + Clock + Copy + Send + 'static,
+{
+    let Opened {
+        source,
+        note: _note,
+    } = opened;
+    let Some(source) = source else {
+        return Ok(None);
+    };
+    let telling = Telling::new(share_settling(&options.settling)?, producer);
+    let stop = share_stop(&options.stop)?;
+    let source = ToldSource::new(rt, alloc, source, telling, options.waits, stop)?;
+    let counts = share(&options.counts)?;
+    Ok(Some(CountedReader::new(StdStream::new(source), counts)))
 }

@@ -1,16 +1,17 @@
 //! The options of a run.
-ghost use Rattle.std.specs.Prelude.{◌≡◌, ◌≢◌, ◌⊎◌, ◌↔◌, ◌≤◌, IsTrue, Some, false, true};
-ghost use Rattle.std.specs.Prelude.{map, option_map, string_bytes, vec_len};
+ghost use Rattle.std.specs.Prelude.{◌≡◌, ◌≢◌, ◌⊎◌, ◌↔◌, ◌≤◌, ◌||◌, IsTrue, Some, false, true};
+ghost use Rattle.std.specs.Prelude.{is_some, map, option_map, string_bytes, vec_len};
 ghost use Rattle.relay_core.specs.Limits.{is_valid};
 ghost use Rattle.relay_http.specs.WrittenRequest.{is_host};
 ghost use Rattle.relay_run.specs.Sources.{is_given, leaves_apart, named_count, standard_name};
-ghost use Rattle.relay_run.specs.Sources.{stands_apart};
+ghost use Rattle.relay_run.specs.Sources.{may_resume, stands_apart};
 
 use crate::source::{STANDARD_NAME, count_named};
 use relay_action::DocKey;
 use relay_http::is_host;
 use relay_lane::RelayConfig;
 use relay_progress::Log;
+use relay_resume::INPUT_LIMIT;
 
 /// The options of a run.
 #[derive(Drop)]
@@ -36,6 +37,10 @@ pub struct RunOptions {
     pub report: Option<String>,
     /// The path of the file to which the lines of invalid operations go, if these are left out.
     pub skip_invalid: Option<String>,
+    /// The path of the file in which the state of the run is kept, if it is.
+    pub state: Option<String>,
+    /// The path of the file that ends the run once it is there, if there is one.
+    pub until: Option<String>,
     /// Whether the reports, and the lines of invalid operations, are added to what their files have.
     /// Otherwise these have to be empty, or absent.
     pub append: bool,
@@ -93,6 +98,24 @@ impl RunOptions {
         } else {
             true
         }
+    }
+
+    /// Whether a run with a state has a file for the reports, and no file of its own has the path of
+    /// another one; nor are invalid operations left out, nor is the epoch taken from the index.
+    pub fn may_resume(&self) -> bool
+        ensures { result ≡ may_resume (option_map string_bytes self.now.state)
+            (option_map string_bytes self.now.report)
+            (is_some self.now.skip_invalid || is_some self.now.epoch_from)
+            (map string_bytes self.now.files.items) }
+    {
+        let Some(state) = &self.state else {
+            return true;
+        };
+        let is_fixed = self.skip_invalid.is_none() && self.epoch_from.is_none();
+        is_fixed
+            && self.report.is_some()
+            && self.files.len() <= INPUT_LIMIT
+            && is_apart_too(state.as_str(), &self.report, &self.files)
     }
 }
 

@@ -1,12 +1,12 @@
 //! The thread of a producer: it puts the operations of a stream, and closes.
-ghost use Rattle.std.specs.Prelude.{◌≡◌, ◌⊎◌, List, map, option_map, string_bytes, IfErr, IfOk};
+ghost use Rattle.std.specs.Prelude.{◌≡◌, ◌⊎◌, map, option_map, string_bytes, IfErr, IfOk};
 ghost use Rattle.relay_ndjson.specs.Metadata.{bytes_given};
-ghost use Rattle.relay_ndjson.specs.Operations.{Operation};
 ghost use Rattle.relay_producer.specs.Ends.{identities, open_puts};
-ghost use Rattle.relay_run.specs.Readers.{IsFedFrom, IsFed};
+ghost use Rattle.relay_run.specs.Readers.{IsFedTelling, IsFed};
 ghost use Rattle.relay_run.specs.Handles.{given_to, all_given, AllEndFed};
 
 use crate::feed::{FeedFault, feed};
+use crate::settling::{SharedSettling, Telling, producer_at, share_settling};
 use crate::stopping::{SharedStop, share_stop};
 use crossbeam_channel::Sender;
 use relay_action::ByteIn;
@@ -58,17 +58,18 @@ fn feed_reader<R: Wait, S: ByteIn + Drop>(
     index: Option<&str>,
     producer: &mut Producer,
     stop: &Option<SharedStop>,
+    telling: &mut Telling,
 ) -> Option<FeedFault>
-    ensures fed { (ops : List Operation)
-        × IsFedFrom S.left S.failed (bytes_given index.entry) (Some reader) ops producer.old
-        producer.new
+    ensures fed { IsFedTelling S.left S.failed (bytes_given index.entry) (Some reader) producer.old
+        producer.new telling.old
+        telling.new
         result }
     ensures same { identities (open_puts producer.new.ends)
         ≡ identities (open_puts producer.old.ends) }
     ensures producer { producer.new.producer ≡ producer.old.producer }
 {
     let mut input = Input::new(alloc, reader, index);
-    match feed(rt, &mut input, producer, stop) {
+    match feed(rt, &mut input, producer, stop, telling) {
         Ok(()) => None,
         Err(fault) => Some(fault),
     }
@@ -83,16 +84,18 @@ fn feed_given<R: Wait, S: ByteIn + Drop>(
     index: Option<&str>,
     producer: &mut Producer,
     stop: &Option<SharedStop>,
+    telling: &mut Telling,
 ) -> Option<FeedFault>
-    ensures fed { (ops : List Operation)
-        × IsFedFrom S.left S.failed (bytes_given index.entry) reader ops producer.old producer.new
+    ensures fed { IsFedTelling S.left S.failed (bytes_given index.entry) reader producer.old
+        producer.new telling.old
+        telling.new
         result }
     ensures same { identities (open_puts producer.new.ends)
         ≡ identities (open_puts producer.old.ends) }
     ensures producer { producer.new.producer ≡ producer.old.producer }
 {
     match reader {
-        Some(reader) => feed_reader(rt, alloc, reader, index, producer, stop),
+        Some(reader) => feed_reader(rt, alloc, reader, index, producer, stop, telling),
         None => None,
     }
 }
@@ -105,12 +108,22 @@ fn run_producer<R: Wait, S: ByteIn + Drop>(
     index: Option<String>,
     producer: Producer,
     stop: Option<SharedStop>,
+    telling: Telling,
 ) -> FedProducer
     ensures { IsFed S.left S.failed (option_map string_bytes index) reader producer result.closed
         result.fault }
 {
     let mut producer = producer;
-    let fault = feed_given(rt, alloc, reader, index.as_deref(), &mut producer, &stop);
+    let mut telling = telling;
+    let fault = feed_given(
+        rt,
+        alloc,
+        reader,
+        index.as_deref(),
+        &mut producer,
+        &stop,
+        &mut telling,
+    );
     FedProducer {
         closed: producer.close(rt),
         fault,
@@ -126,6 +139,7 @@ fn spawn_producer<R, S>(
     index: Option<String>,
     producer: Producer,
     stop: Option<SharedStop>,
+    telling: Telling,
     ended: Sender<(), Global>,
 ) -> Result<FedThread<S>, AllocError>
 where
@@ -142,12 +156,12 @@ where
     };
     Ok(thread::spawn_with(&rt, promise, move || {
         let _ended = ended;
-        run_producer(&rt, alloc, reader, index, producer, stop)
+        run_producer(&rt, alloc, reader, index, producer, stop, telling)
     })?)
 }
 
-// An owned copy of a text, if there is one.
-fn own_text(alloc: Global, text: Option<&str>) -> Result<Option<String>, AllocError>
+/// An owned copy of a text, if there is one.
+pub(crate) fn own_text(alloc: Global, text: Option<&str>) -> Result<Option<String>, AllocError>
     ensures { IfOk result (λ own. option_map string_bytes own ≡ bytes_given text.entry) }
 {
     match text {
@@ -167,6 +181,7 @@ pub(crate) fn spawn_producers<R, S>(
     index: Option<&str>,
     producers: Vec<Producer>,
     stop: &Option<SharedStop>,
+    settling: &Option<SharedSettling>,
     ended: Sender<(), Global>,
 ) -> Result<Vec<FedThread<S>>, StartFault>
 where
@@ -183,8 +198,18 @@ where
         let reader = readers.next().flatten();
         let own = own_text(alloc, index)?;
         let stop = share_stop(stop)?;
+        let telling = Telling::new(share_settling(settling)?, producer_at(threads.len()));
         threads.reserve(1)?;
-        match spawn_producer(rt, alloc, reader, own, producer, stop, ended.clone()?) {
+        match spawn_producer(
+            rt,
+            alloc,
+            reader,
+            own,
+            producer,
+            stop,
+            telling,
+            ended.clone()?,
+        ) {
             Ok(thread) => threads.push_reserved(thread),
             Err(_) => return Err(StartFault::Thread),
         }

@@ -14,6 +14,7 @@ ghost use Rattle.relay_run.specs.Readers.{named_ops, AreFedFrom};
 
 use crate::feed::FeedFault;
 use crate::producing::{join_producers, spawn_producers};
+use crate::settling::SharedSettling;
 use crate::stopping::SharedStop;
 use crate::telling::{SavingTell, have_failed};
 use crate::ticking::tick_until_ended;
@@ -71,6 +72,7 @@ pub fn run<R, W, P, S, F>(
     readers: Vec<Option<S>>,
     index: Option<&str>,
     stop: &Option<SharedStop>,
+    settling: &Option<SharedSettling>,
 ) -> Result<Ran<W, F>, StartFault>
 where
     R: Threads + Wait + Clock + Copy + Send + 'static,
@@ -104,7 +106,7 @@ where
         rt, alloc, config, wires, paces, tells,
     )?;
     let (ended, waiting) = bounded(alloc, 1)?;
-    let threads = spawn_producers(rt, alloc, readers, index, producers, stop, ended)?;
+    let threads = spawn_producers(rt, alloc, readers, index, producers, stop, settling, ended)?;
     tick_until_ended(&rt, &waiting, &mut control);
     let (closed, faults) = join_producers(&rt, alloc, threads)?;
     let control = control.close(&rt);

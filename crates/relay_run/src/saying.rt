@@ -1,10 +1,11 @@
 //! What is written at the end of a run, and its exit status.
-ghost use Rattle.std.specs.Prelude.{◌≡◌, ◌++◌, IfOk, OnOk, IsTrue, false};
+ghost use Rattle.std.specs.Prelude.{◌≡◌, ◌++◌, ℕ, List, IfOk, OnOk, IsTrue, false};
 ghost use Rattle.std.specs.Prelude.{is_some, length, map, string_bytes, vec_len};
 ghost use Rattle.std.specs.Io.KnownBytes.{append_known};
 ghost use Rattle.relay_action.specs.Streams.{FailedSince};
 ghost use Rattle.relay_run.specs.Faults.{worse, file_fault, said_of, worse_by, faults_text};
 ghost use Rattle.relay_run.specs.Faults.{exit_of_files};
+ghost use Rattle.relay_run.specs.Resuming.{told_fault};
 ghost use Rattle.relay_run.specs.Saying.{IsSaid, exit_of_finish, SaysSummary, Concludes};
 ghost use Rattle.relay_run.specs.Outcomes.{start_fault_text, kind_name, finish_fault_text, total};
 ghost use Rattle.relay_run.specs.Outcomes.{reports_of, exit_of_reports, TellsOf};
@@ -13,6 +14,7 @@ use crate::faults::{FileFault, add_file_fault, exit_of_file, worse};
 use crate::feed::FeedFault;
 use crate::hint::say_hint;
 use crate::noting::SharedNote;
+use crate::numbering::Numbering;
 use crate::options::RunOptions;
 use crate::outcome::outcome_text;
 use crate::run::Ran;
@@ -21,6 +23,8 @@ use crate::skipping::say_left_out;
 use crate::stopping::{SharedStop, reason_of_stop, reason_said, say_stopped, were_cut};
 use relay_action::{ByteOut, write_all};
 use relay_core::Report;
+use relay_ndjson::{InputFault, LineKind};
+use relay_resume::Mark;
 use relay_sift::SharedNotes;
 use relay_threads::{FinishFault, FinishFaultKind, LaneSummary, StartFault, Summary};
 use relay_words::{Exit, add_number};
@@ -213,16 +217,25 @@ struct Told {
 }
 
 // The text for a run that finished well.
-fn summary_text<W: Drop>(alloc: Global, summary: Summary<W>) -> Result<Told, AllocError>
-    ensures { IfOk result (λ t. TellsOf summary.lanes.items t.reports.items t.text.items t.exit) }
+fn summary_text<W: Drop>(
+    alloc: Global,
+    summary: Summary<W>,
+    numbering: Numbering,
+) -> Result<Told, AllocError>
+    ensures { IfOk result (λ t. TellsOf numbering.before summary.lanes.items t.reports.items t.text.items t.exit) }
 {
-    let mut counts = count_all(alloc, summary.lanes)?;
-    let exit = exit_of_reports(&counts.reports);
-    let text = outcome_text(alloc, &mut counts.reports, counts.applied, counts.already)?;
+    let Counts {
+        reports,
+        applied,
+        already,
+    } = count_all(alloc, summary.lanes)?;
+    let exit = exit_of_reports(&reports);
+    let mut reports = numbering.rename(alloc, reports)?;
+    let text = outcome_text(alloc, &mut reports, applied, already)?;
     Ok(Told {
         text,
         exit,
-        reports: counts.reports,
+        reports,
     })
 }
 
@@ -231,6 +244,7 @@ pub(crate) fn say<W: ByteOut>(out: &mut W, text: &[u8]) -> bool
     ensures all { IsTrue result → (W.written out.new ≡ append_known (W.written out.old) text.now)
         × (W.failed out.new ≡ W.failed out.old) }
     ensures failed { result ≡ false → FailedSince (W.failed out.old) (W.failed out.new) }
+    ensures front { (sent : List ℕ) × (W.written out.new ≡ append_known (W.written out.old) sent) }
 {
     match write_all(out, text) {
         Ok(()) => true,
@@ -271,14 +285,15 @@ fn say_summary<W: Drop, O: ByteOut, E: ByteOut>(
     alloc: Global,
     exit: Exit,
     summary: Summary<W>,
+    numbering: Numbering,
     out: &mut O,
     err: &mut E,
 ) -> Result<(Exit, Vec<Report>), AllocError>
-    ensures { IfOk result (λ r. SaysSummary summary.lanes.items r.1.items exit
+    ensures { IfOk result (λ r. SaysSummary numbering.before summary.lanes.items r.1.items exit
         (O.written out.old, O.failed out.old) (O.written out.new, O.failed out.new)
         (E.written err.old, E.failed err.old) (E.written err.new, E.failed err.new) r.0) }
 {
-    let told = summary_text(alloc, summary)?;
+    let told = summary_text(alloc, summary, numbering)?;
     if say(out, &told.text) {
         return Ok((worse(exit, told.exit), told.reports));
     }
@@ -294,6 +309,7 @@ fn conclude<W: Drop, F: ByteOut + Drop, O: ByteOut, E: ByteOut>(
     opened: &[bool],
     beneath: &[Vec<u8>],
     ran: Ran<W, F>,
+    numbering: Numbering,
     out: &mut O,
     err: &mut E,
 ) -> Result<(Exit, Vec<Report>), AllocError>
@@ -301,7 +317,7 @@ fn conclude<W: Drop, F: ByteOut + Drop, O: ByteOut, E: ByteOut>(
     requires stops { vec_len ran.faults ≡ length files.now }
     requires beneath { length beneath.now ≡ length files.now }
     ensures { IfOk result
-        (λ r. Concludes (faults_text (map string_bytes files.now) opened.now ran.faults.items
+        (λ r. Concludes numbering.before (faults_text (map string_bytes files.now) opened.now ran.faults.items
         (map (λ v. v.items) beneath.now))
         (exit_of_files Exit.Done opened.now ran.faults.items) ran.end r.1.items
         (O.written out.old, O.failed out.old) (O.written out.new, O.failed out.new)
@@ -316,7 +332,7 @@ fn conclude<W: Drop, F: ByteOut + Drop, O: ByteOut, E: ByteOut>(
     let (text, exit) = faults_text(alloc, files, opened, &faults, beneath)?;
     let _ = say(err, &text);
     match end {
-        Ok(summary) => say_summary(alloc, exit, summary, out, err),
+        Ok(summary) => say_summary(alloc, exit, summary, numbering, out, err),
         Err(fault) => {
             let exit = say_fault(alloc, exit, fault, err)?;
             Ok((exit, Vec::new(alloc)))
@@ -353,6 +369,44 @@ fn has_applied<W: Drop>(end: &Result<Summary<W>, FinishFault>) -> bool {
     applied
 }
 
+// Tells the faults by the lines of the whole files, and as a stop where a read was ended by one.
+fn tell_faults(
+    faults: &mut [Option<FeedFault>],
+    is_stopped: bool,
+    notes: &[SharedNote],
+    starts: &[Mark],
+)
+    ensures { length faults.new ≡ length faults.old }
+{
+    for place in 0..faults.len().min(notes.len()).min(starts.len()) {
+        let was_ended = is_stopped && !notes[place].has_failed();
+        faults[place] = told_fault(faults[place], was_ended, starts[place]);
+    }
+}
+
+// A fault as it is told, given whether a read that failed was ended by a stop.
+fn told_fault(fault: Option<FeedFault>, was_ended: bool, start: Mark) -> Option<FeedFault>
+    ensures { result ≡ told_fault fault was_ended start }
+{
+    match fault {
+        Some(FeedFault::Input(fault)) if fault.kind == LineKind::Read && was_ended => {
+            Some(FeedFault::Stopped)
+        }
+        Some(FeedFault::Input(fault)) => Some(FeedFault::Input(InputFault {
+            line: fault.line.saturating_add(start.line),
+            kind: fault.kind,
+        })),
+        fault => fault,
+    }
+}
+
+/// Writes that a run was left that did not end in time after it was told to stop, and returns the exit
+/// status.
+pub(crate) fn say_left<E: ByteOut>(err: &mut E) -> Exit {
+    let _ = say(err, b"stopped: --until; not all was settled\n");
+    Exit::Device
+}
+
 /// Writes the outcome of a run that was started: that of its lanes, why it has stopped, if it has, what
 /// its conflicts come from, and whether its reports could not be saved.
 pub(crate) fn say_ran<W: Drop, F: ByteOut + Drop, O: ByteOut, E: ByteOut>(
@@ -361,6 +415,7 @@ pub(crate) fn say_ran<W: Drop, F: ByteOut + Drop, O: ByteOut, E: ByteOut>(
     epoch: u32,
     opened: &[bool],
     notes: &[SharedNote],
+    starts: &[Mark],
     ran: Ran<W, F>,
     stop: &Option<SharedStop>,
     out: &mut O,
@@ -371,13 +426,25 @@ pub(crate) fn say_ran<W: Drop, F: ByteOut + Drop, O: ByteOut, E: ByteOut>(
     requires stops { vec_len ran.faults ≡ vec_len options.now.files }
 {
     let unsaved = ran.unsaved;
+    let mut ran = ran;
+    let is_stopped = reason_of_stop(stop).is_some();
+    tell_faults(&mut ran.faults, is_stopped, notes, starts);
     let reason = reason_said(
         reason_of_stop(stop),
         were_cut(&ran.faults),
         has_applied(&ran.end),
     );
     let beneath = beneath_of(alloc, notes, opened, &ran.faults)?;
-    let (exit, reports) = conclude(alloc, &options.files, opened, &beneath, ran, out, err)?;
+    let (exit, reports) = conclude(
+        alloc,
+        &options.files,
+        opened,
+        &beneath,
+        ran,
+        Numbering::of(starts),
+        out,
+        err,
+    )?;
     let exit = match reason {
         Some(reason) => say_stopped(alloc, exit, options.max_reports as u64, reason, err)?,
         None => exit,

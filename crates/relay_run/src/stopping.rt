@@ -26,6 +26,8 @@ pub enum StopReason {
         /// The status.
         status: u16,
     },
+    /// The file is there that was named for it.
+    Until,
 }
 
 /// What the lanes of a run tell, as far as it may stop the run, and whether it is to stop. Each part
@@ -35,8 +37,10 @@ pub struct Stop {
     // How many operations may be reported; 0 means any number.
     limit: u64,
     reported: AtomicU64,
-    // 1 once an operation was applied.
+    // How many operations were applied.
     applied: AtomicU64,
+    // 1 once somebody has asked for it.
+    asked: AtomicU64,
     // The code of the reason, or 0.
     reason: AtomicU64,
     // Where conflicts are counted, if they are.
@@ -62,6 +66,7 @@ impl Stop {
             limit,
             reported: AtomicU64::new(0),
             applied: AtomicU64::new(0),
+            asked: AtomicU64::new(0),
             reason: AtomicU64::new(0),
             counts,
         }
@@ -69,9 +74,33 @@ impl Stop {
 
     /// Tells of this many operations that ended as applied.
     pub fn tell_applied(&self, count: usize) {
-        if count > 0 && self.applied.load(Ordering::SeqCst) == 0 {
-            self.applied.store(1, Ordering::SeqCst);
+        if count > 0 {
+            let _ = self.applied.fetch_add(count as u64, Ordering::SeqCst);
         }
+    }
+
+    /// Asks for the run to take no more input.
+    pub(crate) fn ask(&self) {
+        self.asked.store(1, Ordering::SeqCst);
+        self.stop_for(StopReason::Until);
+    }
+
+    /// Whether somebody has asked for it.
+    pub(crate) fn is_asked(&self) -> bool {
+        self.asked.load(Ordering::SeqCst) > 0
+    }
+
+    /// How many operations have ended.
+    pub(crate) fn ended(&self) -> u64 {
+        let applied = self.applied.load(Ordering::SeqCst);
+        applied.saturating_add(self.reported.load(Ordering::SeqCst))
+    }
+
+    // Stops for this reason, unless there was one before.
+    fn stop_for(&self, reason: StopReason) {
+        let _ = self
+            .reason
+            .compare_exchange(0, code_of(reason), Ordering::SeqCst, Ordering::SeqCst);
     }
 
     /// Tells of an operation that is reported with this cause.
@@ -85,10 +114,7 @@ impl Stop {
             .saturating_add(1);
         let applied = self.applied.load(Ordering::SeqCst) > 0;
         if let Some(reason) = stop_by(cause, applied, self.limit, reported) {
-            let code = code_of(reason);
-            let _ = self
-                .reason
-                .compare_exchange(0, code, Ordering::SeqCst, Ordering::SeqCst);
+            self.stop_for(reason);
         }
     }
 
@@ -149,6 +175,9 @@ pub fn stop_by(cause: &Cause, applied: bool, limit: u64, reported: u64) -> Optio
     }
 }
 
+// The code of being asked for, above those of all statuses.
+const UNTIL: u64 = 65_538;
+
 // A reason as a number above 0.
 fn code_of(reason: StopReason) -> u64
     ensures { result ≡ code_of reason }
@@ -156,6 +185,7 @@ fn code_of(reason: StopReason) -> u64
     match reason {
         StopReason::Reports => 1,
         StopReason::Hopeless { status } => status as u64 + 2,
+        StopReason::Until => UNTIL,
     }
 }
 
@@ -163,12 +193,14 @@ fn code_of(reason: StopReason) -> u64
 fn reason_of(code: u64) -> Option<StopReason>
     ensures none { code ≡ 0 → result ≡ None }
     ensures reports { code ≡ 1 → result ≡ Some StopReason.Reports }
+    ensures until { code ≡ 65538 → result ≡ Some StopReason.Until }
     ensures hopeless { (status : _) → code ≡ status + 2 → status < 2 ^ 16
         → result ≡ Some (StopReason.Hopeless status) }
 {
     match code {
         0 => None,
         1 => Some(StopReason::Reports),
+        UNTIL => Some(StopReason::Until),
         _ => match u16::try_from(code.saturating_sub(2)) {
             Ok(status) => Some(StopReason::Hopeless { status }),
             Err(_) => None,
@@ -188,7 +220,7 @@ pub(crate) fn reason_said(
     ensures { result ≡ reason_said reason was_cut applied }
 {
     match reason {
-        Some(StopReason::Reports) if !was_cut => None,
+        Some(StopReason::Reports | StopReason::Until) if !was_cut => None,
         Some(StopReason::Hopeless { .. }) if !was_cut && applied => None,
         reason => reason,
     }
@@ -247,6 +279,7 @@ fn stop_text(alloc: Global, limit: u64, reason: StopReason) -> Result<Vec<u8>, A
             add_number(&mut text, status as u64)?;
             text.extend_from_slice(b" before it had applied anything\n")?;
         }
+        StopReason::Until => text.extend_from_slice(b"stopped: --until\n")?,
     }
     Ok(text)
 }
@@ -257,5 +290,6 @@ fn exit_of_stop(reason: StopReason) -> Exit
     match reason {
         StopReason::Reports => Exit::Reported,
         StopReason::Hopeless { .. } => Exit::Device,
+        StopReason::Until => Exit::Done,
     }
 }

@@ -1,9 +1,11 @@
 //! What a lane of a run tells by: it saves each report as soon as it arises.
-ghost use Rattle.std.specs.Prelude.{◌≡◌, ◌++◌, ◌∷◌, [], IfOk, OnErr, map, vec_len};
-ghost use Rattle.relay_run.specs.Saving.{IsExactly, KeepsOneMore, AreUnwritten, AreNew, SayFailed};
-ghost use Rattle.relay_run.specs.Saving.{AllKeep};
+ghost use Rattle.std.specs.Prelude.{◌≡◌, ◌++◌, ◌∷◌, [], IfOk, OnErr, map, true, vec_len};
+ghost use Rattle.relay_run.specs.Saving.{IsExactly, KeepsOneMore, GoesOn, AreUnwritten, AreNew};
+ghost use Rattle.relay_run.specs.Saving.{AllGoOnFrom, AllKeep, SayFailed};
 
+use crate::numbering::Numbering;
 use crate::saying::say;
+use crate::settling::{LaneTelling, SharedSettling, share_settling};
 use crate::stopping::{SharedStop, share_stop};
 use http_server::Log;
 use relay_action::ByteOut;
@@ -16,9 +18,10 @@ use std::sync::Wait;
 
 /// What a lane of a run tells by. It saves each report in a file, of which it has a handle of its
 /// own, as soon as it is told of it: the line of the report, in one write if the file takes that.
-/// After a write that failed it saves no more. It also tells a stop, if it has one, what it is told.
-/// Contracts see what was written, whether a write
-/// failed, and what it was told.
+/// After a write that failed it saves no more. It also tells a stop, if it has one, what it is told,
+/// and which operations are settled: those that were applied, and those whose reports were saved.
+/// Contracts see what was written, whether a write failed, what it was told, and what it told as
+/// settled.
 #[derive(Drop)]
 pub struct SavingTell<P: ByteOut> {
     alloc: Global,
@@ -26,6 +29,9 @@ pub struct SavingTell<P: ByteOut> {
     // Whether a write of a report failed.
     failed: bool,
     stop: Option<SharedStop>,
+    settled: LaneTelling,
+    // How the operations are numbered in the reports.
+    numbering: Numbering,
     // What it was told, for proofs only.
     applied: Log<Success, ()>,
     reported: Log<Report, ()>,
@@ -33,7 +39,7 @@ pub struct SavingTell<P: ByteOut> {
 
 impl<P: ByteOut> Model for SavingTell<P> {
     ghost use Rattle.std.specs.Prelude.{map};
-    ghost use Rattle.relay_run.specs.Saving.{Saver, Keeps};
+    ghost use Rattle.relay_run.specs.Saving.{Saver, KeepsAll};
 
     ghost Value = { Saver };
 
@@ -41,27 +47,39 @@ impl<P: ByteOut> Model for SavingTell<P> {
       given = P.written t.file;
       failures = P.failed t.file;
       failed = t.failed;
+      before = t.numbering.before;
       applied = map (λ x. x.0) t.applied.items;
       reported = map (λ x. x.0) t.reported.items;
+      settled = t.settled;
     } };
 
-    ghost invariant = { λ t. Keeps t.failed (P.written t.file) (P.failed t.file)
-        (map (λ x. x.0) t.reported.items) };
+    ghost invariant = { λ t. KeepsAll t.failed (P.written t.file) (P.failed t.file)
+        t.numbering.before (map (λ x. x.0) t.applied.items) (map (λ x. x.0) t.reported.items)
+        t.settled };
 }
 
 impl<P: ByteOut> SavingTell<P> {
     ghost use Rattle.relay_run.specs.Saving.{KeepsTold};
 
     /// It saves in this file, to which nothing was written yet. Memory is allocated for each report.
-    pub fn new(alloc: Global, file: P, stop: Option<SharedStop>) -> SavingTell<P>
+    pub fn new(
+        alloc: Global,
+        file: P,
+        numbering: Numbering,
+        stop: Option<SharedStop>,
+        settling: Option<SharedSettling>,
+    ) -> SavingTell<P>
         requires { IsExactly (P.written file) [] × (P.failed file ≡ 0) }
         ensures new { (result.applied ≡ []) × (result.reported ≡ []) }
+        ensures before { result.before ≡ numbering.before }
     {
         SavingTell {
             alloc,
             file,
             failed: false,
             stop,
+            settled: LaneTelling::new(settling),
+            numbering,
             applied: Log::new(),
             reported: Log::new(),
         }
@@ -89,18 +107,21 @@ impl<P: ByteOut> Tell for SavingTell<P> {
 
     ghost told = { λ t p. told_by t p };
 
-    fn applied<R: Wait>(&mut self, _rt: &R, successes: &[Success]) {
+    fn applied<R: Wait>(&mut self, rt: &R, successes: &[Success]) {
         if let Some(stop) = &self.stop {
             stop.tell_applied(successes.len());
         }
+        self.settled.applied(rt, successes);
         note_all(&mut self.applied, successes);
     }
 
-    fn reported<R: Wait>(&mut self, _rt: &R, report: &Report) -> Result<(), AllocError> {
-        self.failed = save(self.alloc, &mut self.file, self.failed, report)?;
+    fn reported<R: Wait>(&mut self, rt: &R, report: &Report) -> Result<(), AllocError> {
+        let named = self.numbering.report(report)?;
+        self.failed = save(self.alloc, &mut self.file, self.failed, &named)?;
         if let Some(stop) = &self.stop {
             stop.tell_reported(&report.cause);
         }
+        self.settled.reported(rt, report.name, self.failed);
         self.reported = self.reported.and(report, &());
         Ok(())
     }
@@ -127,6 +148,8 @@ fn save<P: ByteOut>(
 ) -> Result<bool, AllocError>
     ensures ok { IfOk result (λ now. KeepsOneMore report.now failed now
         (P.written file.old) (P.written file.new) (P.failed file.old) (P.failed file.new)) }
+    ensures stays { failed ≡ true → IfOk result (λ now. now ≡ true) }
+    ensures on { IfOk result (λ _. GoesOn (P.written file.old) (P.written file.new)) }
     ensures err { OnErr result ((P.written file.new ≡ P.written file.old)
         × (P.failed file.new ≡ P.failed file.old)) }
 {
@@ -139,19 +162,25 @@ fn save<P: ByteOut>(
 }
 
 /// For each of these files, to which nothing was written yet, what a lane tells by that saves its
-/// reports there, and tells the stop of them. `AllocError`: allocation failed.
+/// reports there, and tells the stop of them. Its operations are named by this numbering there.
+/// `AllocError`: allocation failed.
 pub fn make_tells<P: ByteOut + Drop>(
     alloc: Global,
     files: Vec<P>,
+    numbering: Numbering,
     stop: &Option<SharedStop>,
+    settling: &Option<SharedSettling>,
 ) -> Result<Vec<SavingTell<P>>, AllocError>
     requires { AreUnwritten P.written P.failed files.items }
     ensures count { IfOk result (λ v. vec_len v ≡ vec_len files) }
     ensures new { IfOk result (λ v. AreNew v.items) }
+    ensures before { IfOk result (λ v. AllGoOnFrom numbering.before v.items) }
 {
     let mut tells = Vec::with_capacity(alloc, files.len())?;
     for file in files {
-        tells.push(SavingTell::new(alloc, file, share_stop(stop)?))?;
+        let stop = share_stop(stop)?;
+        let settling = share_settling(settling)?;
+        tells.push(SavingTell::new(alloc, file, numbering, stop, settling))?;
     }
     Ok(tells)
 }

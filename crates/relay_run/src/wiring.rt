@@ -20,6 +20,12 @@ type RunDial = PatientDial<TimedDial<CountedDial<HostRuntime>, HostRuntime>, Hos
 /// A wire over TCP.
 type TcpWire = HttpWire<TimedStream<TcpStream, HostRuntime>, RunDial, Unknown>;
 
+/// A counted wire over TCP.
+pub(crate) type RunWire = CountedWire<TcpWire>;
+
+/// A pace that sleeps.
+pub(crate) type RunPace = SleepPace<HostRuntime>;
+
 // The dial to the index.
 fn make_dial(
     rt: HostRuntime,
@@ -74,7 +80,7 @@ pub(crate) fn count_wires(
     alloc: Global,
     wires: Vec<TcpWire>,
     counts: &Option<Shared>,
-) -> Result<Vec<CountedWire<TcpWire>>, AllocError>
+) -> Result<Vec<RunWire>, AllocError>
     requires { NoneOut (λ w. numbers w.out) wires.items }
     ensures same { IfOk result (λ v. v.items ≡ wires.items) }
     ensures out { IfOk result (λ v. NoneOut (λ w. numbers w.out) v.items) }
@@ -91,7 +97,7 @@ pub(crate) fn make_paces(
     rt: HostRuntime,
     alloc: Global,
     lanes: u32,
-) -> Result<Vec<SleepPace<HostRuntime>>, AllocError>
+) -> Result<Vec<RunPace>, AllocError>
     ensures { IfOk result (λ v. vec_len v ≡ lanes) }
 {
     let mut paces = Vec::new(alloc);

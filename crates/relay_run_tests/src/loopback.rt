@@ -119,6 +119,8 @@ fn options<R: Files + Abort + AllocGlobal>(rt: &R, to: String) -> RunOptions {
         max_reports: 0,
         report: None,
         skip_invalid: None,
+        state: None,
+        until: None,
         progress: false,
         log: Log::None,
     }

@@ -16,9 +16,11 @@ use relay_queue::{LaneTake, lane_queue};
 use relay_run::faults::{FileFault, add_file_fault};
 use relay_run::feed::{FeedFault, feed};
 use relay_run::hint::say_hint;
+use relay_run::numbering::Numbering;
 use relay_run::outcome::{add_counts, outcome_text};
 use relay_run::run::{Ran, run};
 use relay_run::saving::say_saved;
+use relay_run::settling::Telling;
 use relay_run::skipping::say_left_out;
 use relay_run::stopping::{StopReason, say_stopped};
 use relay_run::telling::{SavingTell, make_tells};
@@ -183,7 +185,7 @@ fn tells_once(alloc: Global, room: usize) -> Option<Vec<SavingTell<MemStream>>>
 {
     let file = stream_of(alloc, b"", room)?;
     let files = one(alloc, file)?;
-    make_tells(alloc, files, &None).ok()
+    make_tells(alloc, files, Numbering::NEW, &None, &None).ok()
 }
 
 // What one lane tells by that saves in a file which takes this many bytes.
@@ -312,7 +314,8 @@ type Fed = (Result<(), FeedFault>, u64);
 // Feeds a producer, and then drops its ends.
 fn feed_all<R: Wait>(rt: &R, alloc: Global, mut producer: Producer) -> Option<Fed> {
     let mut input = Input::new(alloc, stream_of(alloc, INPUT, 0)?, None);
-    let end = feed(rt, &mut input, &mut producer, &None);
+    let mut telling = Telling::new(None, 0);
+    let end = feed(rt, &mut input, &mut producer, &None, &mut telling);
     Some((end, input.line()))
 }
 
@@ -407,7 +410,9 @@ where
     let paces = one(alloc, SleepPace::new(rt))?;
     let tells = tells_of(alloc, 1_000)?;
     let readers = readers_of(alloc)?;
-    Some(run(rt, alloc, CONFIG, wires, paces, tells, readers, None, &None))
+    Some(run(
+        rt, alloc, CONFIG, wires, paces, tells, readers, None, &None, &None,
+    ))
 }
 
 // The same over a wire in memory.

@@ -25,7 +25,3 @@ unused queues epoch p lanes (x ∷ ps) (c ∷ cs) count new =
 pub mapped : {B C D : Type 0} (g : C → D) (given : B → C) (threads : List B) → map (λ h. g (given h)) threads ≡ map g (map given threads)
 mapped g given [] = refl
 mapped g given (h ∷ hs) = ap (λ l. g (given h) ∷ l) (mapped g given hs)
-
--- the producers that came back are those that were given
-pub given_back : {A B C D : Type 0} (f : A → D) (g : C → D) (given : B → C) (back : List A) (threads : List B) (all : List C) → map f back ≡ map (λ h. g (given h)) threads → map given threads ≡ all → map f back ≡ map g all
-given_back f g given back threads all same is = same ∙ mapped g given threads ∙ ap (λ l. map g l) is

@@ -12,12 +12,9 @@ use Rattle.relay_receipts.specs.declared.window.WindowFault.{WindowFault}
 use Rattle.relay_receipts.specs.declared.window.WindowFaultKind.{WindowFaultKind}
 use Rattle.relay_receipts.specs.declared.window.WindowFaultKind.TheVariants as kind
 use Rattle.relay_telling.specs.declared.ending.Ending.{Ending}
-use Rattle.relay_front.specs.Service.{Settles}
-use Rattle.relay_front.proofs.Settling.{IsKept}
 use Rattle.relay_serve.specs.declared.batch.Batch.{Batch}
-use Rattle.relay_serve.specs.declared.producing.Producing.{Producing}
 use Rattle.relay_serve.specs.Batches.{KeepsPlaces}
-use Rattle.relay_serve.specs.Settling.{Stays, Settles as SettlesAs}
+use Rattle.relay_serve.specs.Settling.{Stays}
 
 pub stays_same : (s : WindowState Ending) → Stays s s
 stays_same s = record { epoch = refl; producer = refl; ends = refl; window = refl; channel = refl; lanes = refl }
@@ -73,19 +70,3 @@ pub stays_put : (old new : WindowState Ending) (key : DocKey) (action : Action) 
 stays_put old new key action (Ok r) added gone unchanged same =
     stays_put_as old new (record old { producer = after_put key action old.producer; pending = old.pending + 1 }) added refl refl refl refl same
 stays_put old new key action (Err e) added gone unchanged same = stays_refused old new key e.kind gone unchanged same
-
--- ---- what is settled
-
--- what a worker's settler does, and what it keeps
-abbrev pub StaysIn : {R : Type 0} → Producing R → Producing R → Type 0
-StaysIn old new = Stays old.settler.producer new.settler.producer
-
-abbrev pub settles_in : {R : Type 0} → Settles (Producing R)
-settles_in old writes ends new = SettlesAs old.settler.producer writes ends new.settler.producer
-
-pub stays_kept : {R : Type 0} → IsKept (settles_in {R = R}) (StaysIn {R = R})
-stays_kept {R} = record {
-  same = λ (s : Producing R). stays_same s.settler.producer;
-  on = λ (a b c : Producing R) h k. stays_on a.settler.producer b.settler.producer c.settler.producer h k;
-  each = λ (a b : Producing R) ws ends h. h.stays;
-}

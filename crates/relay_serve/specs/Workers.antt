@@ -19,5 +19,5 @@ abbrev pub producer_in : WindowState Ending → ProducerState
 producer_in w = w.producer
 
 -- what a worker's thread was given
-abbrev pub given_to : PromisedHandle ClosedProducerState WorkerPromise → WindowState Ending
+abbrev pub given_to : PromisedHandle (ClosedProducerState × TakeEnd Ending) WorkerPromise → WindowState Ending
 given_to h = h.promise.producer.value

@@ -1,10 +1,13 @@
 //! The writes of a request that were put, and how each has ended.
-ghost use Rattle.std.specs.Prelude.{◌≡◌, ℕ, [], ◌+◌, ◌++◌, ◌<◌, ◌≤◌, IfOk, List, None, map, Some, length, vec_capacity, vec_len};
+ghost use Rattle.std.specs.Prelude.{◌≡◌, ◌⊎◌, ℕ, [], ◌∷◌, ◌+◌, ◌++◌, ◌<◌, ◌≤◌, IfOk, List, map, Some};
+ghost use Rattle.std.specs.Prelude.{length, vec_capacity, vec_len};
+ghost use Rattle.relay_action.specs.Lanes.{lane_of_document};
+ghost use Rattle.relay_front.specs.Operations.{Write};
 ghost use Rattle.relay_front.specs.declared.ending.End.{End};
-ghost use Rattle.relay_receipts.specs.declared.notice.Notice.{Notice};
-ghost use Rattle.relay_telling.specs.declared.ending.Ending.{Ending};
-ghost use Rattle.relay_serve.specs.Heard.{Says, IsHeard, IsNoted, AreNoted, FitsFrom, IsUnput, AreUnput, end_in};
-ghost use Rattle.relay_serve.specs.Batches.{KeepsPlaces};
+ghost use Rattle.relay_serve.specs.Batches.{KeepsPlaces, FitsFrom, noted, each_noted, only_of, all_in};
+ghost use Rattle.relay_serve.specs.Batches.{lost, end_in};
+ghost use Rattle.relay_serve.specs.Heard.{number_and_end};
+ghost use Rattle.relay_serve.specs.Settling.{Event, WasPut, AreAll};
 
 use relay_front::End;
 use relay_telling::Ending;
@@ -29,8 +32,7 @@ pub(crate) struct Batch {
 
 // Notes how a write ended, if it is open. Returns whether it was.
 fn note_one(item: &mut Pending, end: End) -> bool
-    ensures { (heard : List (Notice Ending)) → (number : ℕ) → IsNoted heard number item.old.end
-        → IsHeard heard number end → IsNoted heard number item.new.end }
+    ensures { item.new ≡ noted item.old (Some end) }
 {
     if item.end.is_some() {
         return false;
@@ -41,8 +43,7 @@ fn note_one(item: &mut Pending, end: End) -> bool
 
 // Notes how the write at this place ended, if it is open. Returns whether it was.
 fn note_at(items: &mut [Pending], place: usize, end: End) -> bool
-    ensures { (heard : List (Notice Ending)) → (number : ℕ) → AreNoted heard number items.old
-        → IsHeard heard (number + place) end → AreNoted heard number items.new }
+    ensures { (first : ℕ) → items.new ≡ each_noted (only_of (first + place) end) first items.old }
 {
     if place >= items.len() {
         return false;
@@ -52,8 +53,7 @@ fn note_at(items: &mut [Pending], place: usize, end: End) -> bool
 
 // Ends a write of this lane, if it is open. Returns whether it was.
 fn lose_one(item: &mut Pending, lane: u32) -> bool
-    ensures { (heard : List (Notice Ending)) → (number : ℕ) → Says heard None
-        → IsNoted heard number item.old.end → IsNoted heard number item.new.end }
+    ensures { item.new ≡ lost lane item.old }
 {
     if item.lane == lane && item.end.is_none() {
         item.end = Some(End::Gone);
@@ -65,8 +65,7 @@ fn lose_one(item: &mut Pending, lane: u32) -> bool
 
 // Ends the open writes of this lane, and returns how many of all are still open.
 fn lose_in(items: &mut [Pending], lane: u32, open: u64) -> u64
-    ensures { (heard : List (Notice Ending)) → (number : ℕ) → Says heard None
-        → AreNoted heard number items.old → AreNoted heard number items.new }
+    ensures { (first : ℕ) → items.new ≡ each_noted (all_in lane) first items.old }
 {
     let mut left = open;
     'items: for item in items {
@@ -105,8 +104,10 @@ impl Batch {
         requires { vec_len self.old.items < vec_capacity self.old.items }
         ensures len { vec_len self.new.items ≡ vec_len self.old.items + 1 }
         ensures room { vec_capacity self.new.items ≡ vec_capacity self.old.items }
-        ensures noted { (heard : List (Notice Ending)) → (n : ℕ) → FitsFrom heard n self.old
-            → number ≡ n + vec_len self.old.items → FitsFrom heard n self.new }
+        ensures added { (lanes n : ℕ) → (events : List Event) → (w : Write)
+            → FitsFrom lanes n events self.old → number ≡ n + vec_len self.old.items
+            → lane ≡ lane_of_document w.0 lanes
+            → FitsFrom lanes n (events ++ WasPut w ∷ []) self.new }
     {
         self.first = first_with(self.first, self.items.len(), number);
         self.items.push_reserved(Pending { lane, end: None });
@@ -116,8 +117,8 @@ impl Batch {
     /// Notes how the write with this number ended, if it is one of these and open.
     pub(crate) fn note(&mut self, number: u64, end: End)
         ensures keeps { KeepsPlaces self.old self.new }
-        ensures noted { (heard : List (Notice Ending)) → (n : ℕ) → FitsFrom heard n self.old
-            → IsHeard heard number end → FitsFrom heard n self.new }
+        ensures noted { self.new.items.items
+            ≡ each_noted (only_of number end) self.old.first self.old.items.items }
     {
         let Some(place) = number.checked_sub(self.first) else {
             return;
@@ -133,8 +134,8 @@ impl Batch {
     /// This lane tells no more: what it has not told of is left open for good.
     pub(crate) fn lose(&mut self, lane: u32)
         ensures keeps { KeepsPlaces self.old self.new }
-        ensures noted { (heard : List (Notice Ending)) → (n : ℕ) → FitsFrom heard n self.old
-            → Says heard None → FitsFrom heard n self.new }
+        ensures noted { self.new.items.items
+            ≡ each_noted (all_in lane) self.old.first self.old.items.items }
     {
         self.open = lose_in(self.items.as_mut_slice(), lane, self.open);
     }
@@ -147,8 +148,7 @@ impl Batch {
 
 /// The number of the operation that ended, and how it did.
 pub(crate) fn end_of(ending: Ending) -> (u64, End)
-    ensures { (heard : List (Notice Ending)) → Says heard (Some ending)
-        → IsHeard heard result.0 result.1 }
+    ensures { result ≡ number_and_end ending }
 {
     match ending {
         Ending::Applied(success) => (
@@ -162,8 +162,9 @@ pub(crate) fn end_of(ending: Ending) -> (u64, End)
     }
 }
 
+// A copy of the end of a write that was not put.
 fn copy_end(end: &End) -> End
-    ensures { IsUnput result }
+    ensures { (end.now ≡ End.Unput) ⊎ (end.now ≡ End.Gone) → result ≡ end.now }
 {
     match end {
         End::Gone => End::Gone,
@@ -188,8 +189,10 @@ fn add_ends(ends: &mut Vec<End>, items: Vec<Pending>)
 fn fill_ends(ends: &mut Vec<End>, end: &End, count: usize)
     requires len { vec_len ends.old ≤ count }
     requires room { count ≤ vec_capacity ends.old }
+    requires unput { (end.now ≡ End.Unput) ⊎ (end.now ≡ End.Gone) }
     ensures len { vec_len ends.new ≡ count }
-    ensures unput { (rest : List End) × (ends.new.items ≡ ends.old.items ++ rest) × AreUnput rest }
+    ensures filled { (rest : List End) × (ends.new.items ≡ ends.old.items ++ rest)
+        × AreAll end.now rest }
 {
     'places: for place in ends.len()..count {
         ends.push_reserved(copy_end(end));
@@ -201,9 +204,10 @@ pub(crate) fn finish_ends(ends: Vec<End>, batch: Batch, others: &End, count: usi
     requires none { (vec_len ends ≡ 0) × (ends.items ≡ []) }
     requires len { vec_len batch.items ≤ count }
     requires room { count ≤ vec_capacity ends }
+    requires unput { (others.now ≡ End.Unput) ⊎ (others.now ≡ End.Gone) }
     ensures len { vec_len result ≡ count }
-    ensures unput { (rest : List End) × (result.items ≡ map end_in batch.items.items ++ rest)
-        × AreUnput rest }
+    ensures filled { (rest : List End) × (result.items ≡ map end_in batch.items.items ++ rest)
+        × AreAll others.now rest }
 {
     let mut ends = ends;
     let Batch {

@@ -1,29 +1,43 @@
 //! What the threads of a server share.
+use crate::counts::Counts;
 use std::alloc::{AllocError, Global};
 use std::sync::Arc;
 use std::sync::atomic::{AtomicU64, Ordering};
 
-/// Whether the server ends, and how many connections wait for a worker. Each part is read
-/// separately.
+/// Whether the server ends, how many connections wait for a worker and how many are served, and what is
+/// counted. Each part is read separately.
 #[derive(Drop)]
 pub struct Board {
     ending: AtomicU64,
     failed: AtomicU64,
     waiting: AtomicU64,
+    served: AtomicU64,
+    /// The epoch.
+    pub(crate) epoch: u32,
+    /// What is counted of requests.
+    pub(crate) counts: Counts,
+    /// What the wires count.
+    pub(crate) index: relay_progress::Shared,
 }
 
 /// The board of a server.
 pub type Shared = Arc<Board, Global>;
 
 impl Board {
-    /// The board of a server that has just started.
-    pub fn shared(alloc: Global) -> Result<Shared, AllocError> {
+    /// The board of a server that has just started in this epoch.
+    pub fn shared(alloc: Global, epoch: u32) -> Result<Shared, AllocError> {
+        let counts = Counts::new(alloc)?;
+        let index = relay_progress::Counts::shared(alloc)?;
         Ok(Arc::new(
             alloc,
             Board {
                 ending: AtomicU64::new(0),
                 failed: AtomicU64::new(0),
                 waiting: AtomicU64::new(0),
+                served: AtomicU64::new(0),
+                epoch,
+                counts,
+                index,
             },
         )?)
     }
@@ -61,7 +75,46 @@ impl Board {
 
     /// Whether connections wait for a worker.
     pub fn are_waiting(&self) -> bool {
-        self.waiting.load(Ordering::SeqCst) > 0
+        self.waiting() > 0
+    }
+
+    /// How many connections wait for a worker.
+    pub fn waiting(&self) -> u64 {
+        self.waiting.load(Ordering::SeqCst)
+    }
+
+    /// A worker serves one more connection.
+    pub fn add_served(&self) {
+        self.served.fetch_add(1, Ordering::SeqCst);
+    }
+
+    /// A worker no longer serves a connection.
+    pub fn take_served(&self) {
+        self.served.fetch_sub(1, Ordering::SeqCst);
+    }
+
+    /// How many connections workers serve.
+    pub fn served(&self) -> u64 {
+        self.served.load(Ordering::SeqCst)
+    }
+
+    /// Whether the index has not answered since an exchange or a try to connect failed last.
+    pub fn is_down(&self) -> bool {
+        self.index.sight(0).is_down
+    }
+
+    /// Why no writes can be settled now, if so.
+    pub fn trouble(&self) -> Option<&'static str> {
+        if self.has_failed() {
+            return Some("a lane has ended");
+        }
+        if self.is_ending() {
+            return Some("the relay is stopping");
+        }
+        if self.is_down() {
+            return Some("the index does not answer");
+        }
+        None
     }
 }
 

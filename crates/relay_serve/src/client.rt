@@ -1,5 +1,5 @@
 //! A client's connection: the steps of `http_server` over its socket.
-ghost use Rattle.relay_serve.specs.Settling.{Stays};
+ghost use Rattle.relay_serve.specs.Serving.{GoesOn};
 
 use crate::board::Shared;
 use crate::producing::WorkerFront;
@@ -154,7 +154,7 @@ impl Client {
     // Sends what is pending, or else reads once, and answers what was read. Returns whether bytes
     // moved: not if the client took none or sent none for a slice.
     fn step<R: Wait + Clock>(&mut self, front: &mut WorkerFront<'_, R>) -> io::Result<bool>
-        ensures { Stays front.old.relay.settler.producer front.new.relay.settler.producer }
+        ensures { GoesOn front.old.relay.settler.producer front.new.relay.settler.producer }
     {
         let writes = self.connection.wants_write();
         match self.exchange() {
@@ -252,7 +252,7 @@ impl Client {
         shared: &Shared,
         idle: u64,
     ) -> Next
-        ensures { Stays front.old.relay.settler.producer front.new.relay.settler.producer }
+        ensures { GoesOn front.old.relay.settler.producer front.new.relay.settler.producer }
     {
         if self.is_refused() {
             return Next::Refuse;
@@ -277,7 +277,7 @@ impl Client {
         shared: &Shared,
         idle: u64,
     ) -> Turn
-        ensures { Stays front.old.relay.settler.producer front.new.relay.settler.producer }
+        ensures { GoesOn front.old.relay.settler.producer front.new.relay.settler.producer }
     {
         let mut client = self;
         let mut watch = Watch {
@@ -308,7 +308,7 @@ impl Client {
 
 // Answers the requests that were read, until the input is used up or enough is pending.
 fn answer<R: Wait + Clock>(connection: &mut Connection, front: &mut WorkerFront<'_, R>)
-    ensures { Stays front.old.relay.settler.producer front.new.relay.settler.producer }
+    ensures { GoesOn front.old.relay.settler.producer front.new.relay.settler.producer }
 {
     connection.advance(front);
 }

@@ -1,13 +1,17 @@
 //! What a worker's front puts its writes by, and where it gets ids.
 ghost use Rattle.std.specs.Prelude.{◌≡◌};
+ghost use Rattle.relay_producer.specs.Ends.{ClosesAll};
 ghost use Rattle.relay_run.specs.Identities.{identity_of, identity_of_closed};
 ghost use Rattle.relay_serve.specs.Settling.{Settles};
 
+use crate::metrics::metrics_text;
 use crate::settler::Settler;
 use rand_pcg::Pcg64;
 use relay_action::{Action, DocKey, Text};
 use relay_front::{Front, Ids, Settle, Settled};
 use relay_producer::ClosedProducer;
+use relay_receipts::ReceiptTake;
+use relay_telling::Ending;
 use std::alloc::{AllocError, Global};
 use std::sync::Wait;
 use std::time::Clock;
@@ -25,18 +29,33 @@ impl<'a, R: Wait + Clock> Settle for Producing<'a, R> {
         Settles old.settler.producer writes ends new.settler.producer };
 
     fn settle(&mut self, writes: Vec<(DocKey, Action)>) -> Result<Settled, AllocError> {
-        self.settler.settle(self.rt, writes)
+        let settled = self.settler.settle(self.rt, writes)?;
+        self.settler.shared.counts.add(&settled);
+        Ok(settled)
     }
 
     fn is_ending(&self) -> bool {
         self.settler.shared.is_ending()
     }
+
+    fn trouble(&self) -> Option<&'static str> {
+        self.settler.shared.trouble()
+    }
+
+    fn metrics(&self, alloc: Global) -> Result<Vec<u8>, AllocError> {
+        metrics_text(alloc, &self.settler.shared)
+    }
 }
 
 impl<'a, R: Wait + Clock> Producing<'a, R> {
-    /// Closes the producer.
-    pub(crate) fn close(self) -> ClosedProducer
-        ensures { identity_of_closed result ≡ identity_of self.entry.settler.producer.producer }
+    /// Closes the producer, and returns it with its end of the channel of its receipts.
+    pub(crate) fn close(self) -> (ClosedProducer, ReceiptTake<Ending>)
+        ensures closes { ClosesAll self.entry.settler.producer.producer.ends result.0.ends }
+        ensures same { (result.0.producer ≡ self.entry.settler.producer.producer.producer)
+            × (result.0.put ≡ self.entry.settler.producer.producer.put) }
+        ensures identity { identity_of_closed result.0
+            ≡ identity_of self.entry.settler.producer.producer }
+        ensures receipts { result.1 ≡ self.entry.settler.producer.receipts }
     {
         let Producing { rt, settler } = self;
         settler.close(rt)

@@ -236,7 +236,7 @@ where
     requires host { IsTrue (is_host (string_bytes options.now.to)) }
 {
     let alloc = host.alloc();
-    let shared = Board::shared(alloc)?;
+    let shared = Board::shared(alloc, epoch)?;
     let (arrived, next) = bounded::<Client, Global>(alloc, CONNECTIONS)?;
     let connections = Connections { arrived, next };
     let Ok(keys) = RandomState::new(host) else {

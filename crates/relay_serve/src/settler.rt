@@ -1,21 +1,20 @@
 //! A worker's producer, which settles the writes of requests.
-ghost use Rattle.std.specs.Prelude.{◌≡◌, ℕ, ◌+◌, ◌≤◌, [], ◌∷◌, ◌++◌, IfErr, IfNone, IfOk, IfSome, List, false};
-ghost use Rattle.std.specs.Prelude.{OnErr, length, vec_capacity, vec_len};
-ghost use Rattle.relay_receipts.specs.Windows.{WindowState};
-ghost use Rattle.relay_receipts.specs.declared.notice.Notice.{Notice};
-ghost use Rattle.relay_telling.specs.declared.ending.Ending.{Ending};
+ghost use Rattle.std.specs.Prelude.{◌≡◌, ◌⊎◌, ℕ, ◌+◌, ◌≤◌, [], ◌∷◌, ◌++◌, IfNone, IfOk, IfSome};
+ghost use Rattle.std.specs.Prelude.{List, OnErr, false, length, vec_capacity, vec_len};
+ghost use Rattle.relay_producer.specs.Ends.{ClosesAll};
+ghost use Rattle.relay_receipts.specs.Windows.{WindowState, without_ended};
 ghost use Rattle.relay_run.specs.Identities.{identity_of, identity_of_closed};
-ghost use Rattle.relay_serve.specs.Batches.{KeepsPlaces};
-ghost use Rattle.relay_serve.specs.Heard.{FitsFrom, IsUnput};
-ghost use Rattle.relay_serve.specs.Settling.{Stays, Settles, Hears, Tries, Becomes, PutsSome};
+ghost use Rattle.relay_serve.specs.Batches.{KeepsPlaces, FitsFrom};
+ghost use Rattle.relay_serve.specs.Putting.{Hears, Tries, Becomes, PutsSome, is_final};
+ghost use Rattle.relay_serve.specs.Settling.{Stays, Settles, Event, WasHeard};
 
 use crate::batch::{Batch, end_of, finish_ends};
 use crate::board::Shared;
-use crate::timing::{TRIES, Timer, pause, sleep};
+use crate::timing::Timer;
 use relay_action::{Action, DocKey};
 use relay_front::{End, Settled};
-use relay_producer::{ClosedProducer, PutFaultKind, Receipt};
-use relay_receipts::{Gone, Notice, WindowFault, WindowFaultKind, WindowedProducer};
+use relay_producer::{ClosedProducer, Receipt};
+use relay_receipts::{Notice, ReceiptTake, WindowFault, WindowFaultKind, WindowedProducer};
 use relay_telling::Ending;
 use std::alloc::{AllocError, Global};
 use std::sync::Wait;
@@ -43,8 +42,8 @@ enum Put {
 // Notes what a notice says. One that says that its lane tells no more ends the server.
 fn note(shared: &Shared, batch: &mut Batch, notice: Notice<Ending>)
     ensures keeps { KeepsPlaces batch.old batch.new }
-    ensures noted { (heard : List (Notice Ending)) → (number : ℕ) → FitsFrom heard number batch.old
-        → FitsFrom (heard ++ notice ∷ []) number batch.new }
+    ensures noted { (lanes number : ℕ) → (events : List Event) → FitsFrom lanes number events batch.old
+        → FitsFrom lanes number (events ++ WasHeard notice ∷ []) batch.new }
 {
     let Notice { lane, told } = notice;
     match told {
@@ -71,75 +70,22 @@ fn make_room(alloc: Global, count: usize) -> Result<(Vec<End>, Batch), AllocErro
 }
 
 impl Settler {
-    // The notice at the front, if there is one. `Err`: no lane tells any more.
-    fn try_notice<R: Wait>(&mut self, rt: &R) -> Result<Option<Notice<Ending>>, Gone>
-        ensures stays { Stays self.old.producer self.new.producer }
-        ensures same { self.new.producer.producer ≡ self.old.producer.producer }
-        ensures taken { IfOk result (λ o. IfSome o (λ n. self.new.producer.receipts.taken
-            ≡ self.old.producer.receipts.taken ++ n ∷ [])) }
-        ensures none { IfOk result (λ o. IfNone o (self.new.producer ≡ self.old.producer)) }
-        ensures gone { IfErr result (λ _. self.new.producer ≡ self.old.producer) }
-    {
-        let taken = self.producer.try_take(rt);
-        if taken.is_err() {
-            self.shared.fail();
-        }
-        taken
-    }
-
-    // The next notice, unless none comes for a number of tries.
-    fn poll_notice<R: Wait>(&mut self, rt: &R) -> Result<Option<Notice<Ending>>, Gone>
-        ensures stays { Stays self.old.producer self.new.producer }
-        ensures same { self.new.producer.producer ≡ self.old.producer.producer }
-        ensures taken { IfOk result (λ o. IfSome o (λ n. self.new.producer.receipts.taken
-            ≡ self.old.producer.receipts.taken ++ n ∷ [])) }
-        ensures none { IfOk result (λ o. IfNone o (self.new.producer ≡ self.old.producer)) }
-        ensures gone { IfErr result (λ _. self.new.producer ≡ self.old.producer) }
-    {
-        'tries: for turn in 0..TRIES {
-            match self.try_notice(rt) {
-                Ok(None) => pause(turn),
-                taken => return taken,
-            }
-        }
-        Ok(None)
-    }
-
-    // The next notice, unless the time is over or no lane tells any more. It sleeps between tries.
-    fn await_notice<R: Wait + Clock>(&mut self, rt: &R, timer: &Timer) -> Option<Notice<Ending>>
-        ensures stays { Stays self.old.producer self.new.producer }
-        ensures same { self.new.producer.producer ≡ self.old.producer.producer }
-        ensures taken { IfSome result (λ n. self.new.producer.receipts.taken
-            ≡ self.old.producer.receipts.taken ++ n ∷ []) }
-        ensures none { IfNone result (self.new.producer ≡ self.old.producer) }
-    {
-        let began = Instant::now(rt).ok();
-        'tries: for _ in rt.forever() {
-            match self.try_notice(rt) {
-                Ok(None) => {}
-                Ok(notice) => return notice,
-                Err(_) => return None,
-            }
-            if timer.is_over(rt) {
-                return None;
-            }
-            sleep(rt, began);
-        }
-        unreachable!()
-    }
-
     // The next notice, unless the time is over or no lane tells any more.
     fn next_notice<R: Wait + Clock>(&mut self, rt: &R, timer: &Timer) -> Option<Notice<Ending>>
         ensures stays { Stays self.old.producer self.new.producer }
         ensures same { self.new.producer.producer ≡ self.old.producer.producer }
         ensures taken { IfSome result (λ n. self.new.producer.receipts.taken
             ≡ self.old.producer.receipts.taken ++ n ∷ []) }
+        ensures pending { IfSome result (λ n. self.new.producer.pending
+            ≡ without_ended n.told self.old.producer.pending) }
         ensures none { IfNone result (self.new.producer ≡ self.old.producer) }
     {
-        match self.poll_notice(rt) {
-            Ok(None) => self.await_notice(rt, timer),
+        match self.producer.take_within(rt, timer.left(rt)) {
             Ok(notice) => notice,
-            Err(_) => None,
+            Err(_) => {
+                self.shared.fail();
+                None
+            }
         }
     }
 
@@ -148,6 +94,7 @@ impl Settler {
         ensures stays { Stays self.old.producer self.new.producer }
         ensures keeps { KeepsPlaces batch.old batch.new }
         ensures hears { Hears self.old.producer self.new.producer batch.old batch.new }
+        ensures none { result ≡ false → self.new.producer ≡ self.old.producer }
     {
         match self.next_notice(rt, timer) {
             Some(notice) => {
@@ -222,7 +169,8 @@ impl Settler {
         requires none { batch.old.items.items ≡ [] }
         ensures stays { Stays self.old.producer self.new.producer }
         ensures len { vec_len batch.new.items ≤ vec_len batch.old.items + vec_len writes }
-        ensures puts { PutsSome self.old.producer writes.items self.new.producer batch.new }
+        ensures puts { PutsSome self.old.producer writes.items result self.new.producer batch.new }
+        ensures others { (result ≡ End.Unput) ⊎ (result ≡ End.Gone) }
     {
         'writes: for (key, action) in writes {
             match self.put(rt, batch, key, action, timer) {
@@ -241,7 +189,10 @@ impl Settler {
         ensures hears { Hears self.old.producer self.new.producer batch.old batch.new }
     {
         'notices: for _ in rt.forever() {
-            if batch.is_over() || !self.hear(rt, batch, timer) {
+            if batch.is_over() {
+                return;
+            }
+            if !self.hear(rt, batch, timer) {
                 return;
             }
         }
@@ -272,13 +223,17 @@ impl Settler {
         let others = self.put_all(rt, &mut batch, writes, &timer);
         self.hear_all(rt, &mut batch, &timer);
         let ends = finish_ends(ends, batch, &others, count);
-        let took = timer.micros(rt) / 1_000;
+        let took = u64::try_from(timer.spent(rt).as_millis()).unwrap_or(u64::MAX);
         Ok(Settled { ends, took })
     }
 
-    /// Closes the producer.
-    pub(crate) fn close<R: Wait>(self, rt: &R) -> ClosedProducer
-        ensures { identity_of_closed result ≡ identity_of self.producer.producer }
+    /// Closes the producer, and returns it with its end of the channel of its receipts.
+    pub(crate) fn close<R: Wait>(self, rt: &R) -> (ClosedProducer, ReceiptTake<Ending>)
+        ensures closes { ClosesAll self.producer.producer.ends result.0.ends }
+        ensures same { (result.0.producer ≡ self.producer.producer.producer)
+            × (result.0.put ≡ self.producer.producer.put) }
+        ensures identity { identity_of_closed result.0 ≡ identity_of self.producer.producer }
+        ensures receipts { result.1 ≡ self.producer.receipts }
     {
         let Settler {
             alloc: _,
@@ -286,17 +241,16 @@ impl Settler {
             shared: _,
             within: _,
         } = self;
-        let (closed, _receipts) = producer.close(rt);
-        closed
+        producer.close(rt)
     }
 }
 
 // Whether a write that was refused so can never be put.
 fn is_final(kind: WindowFaultKind) -> bool
-    ensures { result ≡ false → kind ≡ WindowFaultKind.WindowFull }
+    ensures { result ≡ is_final kind }
 {
     match kind {
         WindowFaultKind::WindowFull => false,
-        WindowFaultKind::Put(PutFaultKind::LaneGone | PutFaultKind::NumbersSpent) => true,
+        WindowFaultKind::Put(_) => true,
     }
 }

@@ -1,8 +1,10 @@
 //! The lanes and the workers of a server, from their start to their end.
 ghost use Rattle.std.specs.Prelude.{◌≡◌, ◌≤◌, IfOk, IsTrue, map, string_bytes, vec_len};
 ghost use Rattle.relay_http.specs.WrittenRequest.{is_host};
-ghost use Rattle.relay_threads.specs.Relay.{AreNew, new_control};
+ghost use Rattle.relay_threads.specs.Relay.{AreNew, NoneOut, new_control};
+ghost use Rattle.relay_wires.specs.Numbers.{numbers};
 ghost use Rattle.relay_serve.specs.Configs.{config_in};
+ghost use Rattle.relay_serve.specs.Delivered.{IsDelivered};
 ghost use Rattle.relay_serve.specs.Workers.{producer_in};
 
 use crate::board::Shared;
@@ -10,6 +12,7 @@ use crate::options::ServeOptions;
 use crate::stopped::Stopped;
 use crate::wiring::{TcpWire, config_of, make_paces, make_wires, window_of};
 use crate::workers::{Connections, pair_up, run_workers};
+use relay_lane::Wire;
 use relay_producer::{Control, Producer};
 use relay_receipts::{ReceiptTake, WindowedProducer};
 use relay_telling::{Ending, LaneTells, telling};
@@ -34,6 +37,7 @@ fn start<R>(
     alloc: Global,
     options: &ServeOptions,
     epoch: u32,
+    shared: &Shared,
 ) -> Result<Started, Stopped>
 where
     R: Threads + Wait + Clock + Copy + Send + 'static,
@@ -41,12 +45,14 @@ where
     requires lanes { options.now.config.lanes ≤ 8 }
     ensures config { IfOk result (λ r. r.0.config ≡ config_in epoch options.now.config) }
     ensures producers { IfOk result (λ r. AreNew r.0.queues epoch 0 (map producer_in r.1.items)) }
+    ensures wires { IfOk result (λ r. NoneOut (λ w. numbers w.out) r.0.wires) }
     ensures count { IfOk result (λ r. vec_len r.1 ≡ r.0.config.producers) }
     ensures control { IfOk result (λ r. r.2 ≡ new_control r.0.queues r.0.config.producers) }
 {
     let config = config_of(options.config, epoch);
     let window = window_of(config.producers);
-    let wires = make_wires(*host, alloc, options.to.as_str(), options.timeout, config)?;
+    let to = options.to.as_str();
+    let wires = make_wires(*host, alloc, to, options.timeout, config, &shared.index)?;
     let paces = make_paces(*host, alloc, config.lanes)?;
     let (tells, takes) = telling(alloc, config.producers, config.lanes, window)?;
     let (relay, producers, control) = Relay::start_telling(rt, alloc, config, wires, paces, tells)?;
@@ -56,6 +62,10 @@ where
 
 /// Starts the lanes and the workers in this epoch, waits until the workers have ended, and then
 /// until the lanes have.
+///
+/// If the lanes have finished, there are requests for each worker that it has settled, one after
+/// another, and each lane took exactly those of their writes on its documents that were put, and
+/// delivered them as `Relay::finish` says, each lane and all lanes together.
 pub(crate) fn serve_epoch<R>(
     rt: R,
     host: &HostRuntime,
@@ -69,9 +79,12 @@ where
     R: Threads + Wait + Clock + Copy + Send + 'static,
     requires host { IsTrue (is_host (string_bytes options.now.to)) }
     requires lanes { options.now.config.lanes ≤ 8 }
+    ensures delivered { IfOk result (λ s. IsDelivered ⟦<TcpWire as Wire>⟧.describes
+        ⟦<TcpWire as Wire>⟧.fits ⟦<TcpWire as Wire>⟧.carries (λ w. numbers w.out)
+        (config_in epoch options.now.config) s.lanes.items) }
 {
-    let (relay, producers, control) = start(rt, host, alloc, options, epoch)?;
-    let (closed, control) = run_workers(
+    let (relay, producers, control) = start(rt, host, alloc, options, epoch, shared)?;
+    let (closed, _receipts, control) = run_workers(
         rt,
         host,
         alloc,

@@ -6,11 +6,13 @@ ghost use Rattle.relay_wires.specs.Numbers.{numbers};
 ghost use Rattle.relay_serve.specs.Configs.{config_in, window_of};
 
 use relay_lane::RelayConfig;
-use relay_net::{Sockets, TcpDial, TimedDial, TimedStream};
+use relay_net::{TcpDial, TimedDial, TimedStream};
 use relay_pace::SleepPace;
+use relay_progress::{CountedDial, CountedWire, Shared};
 use relay_wires::{HttpWire, Unknown};
 use std::alloc::{AllocError, Global};
 use std::net::TcpStream;
+use std::sync::Arc;
 
 /// The maximum number of operations of a worker that may be open, if there are few workers.
 const WINDOW: u32 = 1_024;
@@ -18,11 +20,14 @@ const WINDOW: u32 = 1_024;
 /// The number of operations of all workers that may be open.
 const OPEN_LIMIT: u32 = 65_000;
 
-/// A dial over TCP that limits the time of each message.
-type ServeDial = TimedDial<TcpDial<Sockets<HostRuntime>>, HostRuntime>;
+/// A dial over TCP that is counted, and limits the time of each message.
+type ServeDial = TimedDial<CountedDial<HostRuntime>, HostRuntime>;
 
 /// A wire over TCP.
-pub(crate) type TcpWire = HttpWire<TimedStream<TcpStream, HostRuntime>, ServeDial, Unknown>;
+type SocketWire = HttpWire<TimedStream<TcpStream, HostRuntime>, ServeDial, Unknown>;
+
+/// One that is counted.
+pub(crate) type TcpWire = CountedWire<SocketWire>;
 
 /// The window of each of so many workers.
 pub(crate) fn window_of(workers: u32) -> u32
@@ -52,12 +57,14 @@ fn make_dial(
     alloc: Global,
     to: &str,
     timeout: u32,
+    counts: &Shared,
 ) -> Result<ServeDial, AllocError>
     ensures address { IfOk result (λ d. d.0.0 ≡ to.entry.now) }
     ensures timeout { IfOk result (λ d. (d.0.3 ≡ timeout) × (d.1 ≡ timeout)) }
 {
     let address = String::from_str(alloc, to)?;
     let dial = TcpDial::new(host, address).with_timeout(timeout);
+    let dial = CountedDial::new(dial, Some(Arc::try_clone(counts)?));
     Ok(TimedDial::new(dial, host, timeout))
 }
 
@@ -68,13 +75,15 @@ fn make_wire(
     to: &str,
     timeout: u32,
     in_flight: u32,
+    counts: &Shared,
 ) -> Result<TcpWire, AllocError>
     requires { IsTrue (is_host to.now) }
     ensures { IfOk result (λ w. numbers w.out ≡ []) }
 {
-    let dial = make_dial(host, alloc, to, timeout)?;
+    let dial = make_dial(host, alloc, to, timeout, counts)?;
     let to = String::from_str(alloc, to)?;
-    HttpWire::new(alloc, dial, Unknown, to, in_flight)
+    let wire = HttpWire::new(alloc, dial, Unknown, to, in_flight)?;
+    Ok(CountedWire::new(alloc, wire, Some(Arc::try_clone(counts)?)))
 }
 
 /// A wire to the index for each lane, with as many places in flight as the config has.
@@ -84,6 +93,7 @@ pub(crate) fn make_wires(
     to: &str,
     timeout: u32,
     config: RelayConfig,
+    counts: &Shared,
 ) -> Result<Vec<TcpWire>, AllocError>
     requires { IsTrue (is_host to.now) }
     ensures count { IfOk result (λ v. vec_len v ≡ config.lanes) }
@@ -91,7 +101,7 @@ pub(crate) fn make_wires(
 {
     let mut wires = Vec::new(alloc);
     'lanes: for lane in 0..config.lanes {
-        wires.push(make_wire(host, alloc, to, timeout, config.in_flight)?)?;
+        wires.push(make_wire(host, alloc, to, timeout, config.in_flight, counts)?)?;
     }
     Ok(wires)
 }

@@ -1,7 +1,5 @@
 //! A worker: a thread that serves one connection after another with its producer.
-ghost use Rattle.std.specs.Prelude.{◌≡◌};
-ghost use Rattle.relay_run.specs.Identities.{identity_of, identity_of_closed};
-ghost use Rattle.relay_serve.specs.Settling.{Stays};
+ghost use Rattle.relay_serve.specs.Serving.{GoesOn, HasServed};
 
 use crate::board::Shared;
 use crate::client::{Client, SLICE, Turn};
@@ -10,6 +8,8 @@ use crate::settler::Settler;
 use crossbeam_channel::{Receiver, RecvTimeoutError, Sender};
 use relay_front::{Face, Front};
 use relay_producer::ClosedProducer;
+use relay_receipts::ReceiptTake;
+use relay_telling::Ending;
 use std::alloc::Global;
 use std::sync::Wait;
 use std::time::{Clock, Duration};
@@ -60,12 +60,15 @@ fn serve_next<R: Wait + Clock>(
     shared: &Shared,
     idle: u64,
 ) -> bool
-    ensures { Stays front.old.relay.settler.producer front.new.relay.settler.producer }
+    ensures { GoesOn front.old.relay.settler.producer front.new.relay.settler.producer }
 {
     match connections.recv_timeout(rt, Duration::from_millis(SLICE)) {
         Ok(client) => {
             shared.take_waiting();
-            if let Turn::Waits(client) = client.serve(rt, front, shared, idle) {
+            shared.add_served();
+            let turn = client.serve(rt, front, shared, idle);
+            shared.take_served();
+            if let Turn::Waits(client) = turn {
                 give(rt, shared, waiting, client);
             }
             false
@@ -84,7 +87,7 @@ fn serve_all<R: Wait + Clock>(
     shared: &Shared,
     idle: u64,
 )
-    ensures { Stays front.old.relay.settler.producer front.new.relay.settler.producer }
+    ensures { GoesOn front.old.relay.settler.producer front.new.relay.settler.producer }
 {
     'clients: for _ in rt.forever() {
         if shared.is_ending() || serve_next(rt, connections, waiting, front, shared, idle) {
@@ -96,14 +99,15 @@ fn serve_all<R: Wait + Clock>(
 
 impl Worker {
     /// Serves one connection after another until the server ends, and closes. A connection that
-    /// makes place goes behind those that wait.
+    /// makes place goes behind those that wait. Returns the producer and its end of the channel of
+    /// its receipts.
     pub(crate) fn work<R: Wait + Clock>(
         self,
         rt: &R,
         connections: &Receiver<Client, Global>,
         waiting: &Sender<Client, Global>,
-    ) -> ClosedProducer
-        ensures { identity_of_closed result ≡ identity_of self.settler.producer.producer }
+    ) -> (ClosedProducer, ReceiptTake<Ending>)
+        ensures { HasServed self.settler.producer result.0 result.1 }
     {
         let Worker {
             settings,

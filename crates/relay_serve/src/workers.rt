@@ -1,7 +1,7 @@
 //! The threads of workers, from their start to their end.
 ghost use Rattle.std.specs.Prelude.{◌≡◌, ◌<◌, ◌≤◌, IfOk, map};
 ghost use Rattle.relay_producer.specs.Ends.{identities, open_puts, closed_puts};
-ghost use Rattle.relay_run.specs.Identities.{identity_of, identity_of_closed};
+ghost use Rattle.relay_serve.specs.Serving.{HaveServed};
 ghost use Rattle.relay_serve.specs.Workers.{AreUnused, given_to, producer_in};
 
 use crate::board::{Shared, share};
@@ -34,15 +34,19 @@ pub(crate) struct WorkerPromise {
     pub(crate) producer: Snapshot<WindowedProducer<Ending>>,
 }
 
-impl Promise<ClosedProducer> for WorkerPromise {
-    ghost use Rattle.std.specs.Prelude.{◌≡◌};
-    ghost use Rattle.relay_run.specs.Identities.{identity_of, identity_of_closed};
+impl Promise<(ClosedProducer, ReceiptTake<Ending>)> for WorkerPromise {
+    ghost use Rattle.relay_serve.specs.Serving.{HasServed};
 
-    ghost kept_by = { λ p closed. identity_of_closed closed ≡ identity_of p.producer.value.producer };
+    ghost kept_by = { λ p ended. HasServed p.producer.value ended.0 ended.1 };
 }
 
-/// A worker in its thread.
-pub(crate) type WorkerThread = PromisedHandle<ClosedProducer, WorkerPromise>;
+/// A worker in its thread, which returns its producer, closed, and the end of the channel of its
+/// receipts.
+pub(crate) type WorkerThread = PromisedHandle<(ClosedProducer, ReceiptTake<Ending>), WorkerPromise>;
+
+/// What workers that have ended leave: their producers, closed, and their ends of the channels of
+/// receipts; and the control.
+type Ended = (Vec<ClosedProducer>, Vec<ReceiptTake<Ending>>, ClosedControl);
 
 /// The ends of the channel of connections: those that wait for a worker.
 #[derive(Drop)]
@@ -206,24 +210,28 @@ where
     Ok(threads)
 }
 
-// Waits until each worker has ended, and returns their producers, in order.
+// Waits until each worker has ended, and returns their producers and their ends of the channels of
+// receipts, in order.
 fn join_all<R: Threads>(
     rt: &R,
     alloc: Global,
     threads: Vec<WorkerThread>,
-) -> Result<Vec<ClosedProducer>, AllocError>
-    ensures { IfOk result (λ v. map identity_of_closed v.items
-        ≡ map (λ h. identity_of (producer_in (given_to h))) threads.items) }
+) -> Result<(Vec<ClosedProducer>, Vec<ReceiptTake<Ending>>), AllocError>
+    ensures { IfOk result (λ r. HaveServed (map given_to threads.items) r.0.items r.1.items) }
 {
     let mut closed = Vec::with_capacity(alloc, threads.len())?;
+    let mut receipts = Vec::with_capacity(alloc, threads.len())?;
     'threads: for thread in threads {
-        closed.push(thread.join(rt))?;
+        let (producer, take) = thread.join(rt);
+        closed.push(producer)?;
+        receipts.push(take)?;
     }
-    Ok(closed)
+    Ok((closed, receipts))
 }
 
 /// Starts a worker for each of these producers, and waits until they have ended, while the lanes get
-/// a tick every 100 ms. Then it closes the control.
+/// a tick every 100 ms. Then it closes the control. Returns the producers and their ends of the
+/// channels of receipts, in order, and the control.
 pub(crate) fn run_workers<R>(
     rt: R,
     host: &HostRuntime,
@@ -233,12 +241,11 @@ pub(crate) fn run_workers<R>(
     control: Control,
     shared: &Shared,
     connections: &Connections,
-) -> Result<(Vec<ClosedProducer>, ClosedControl), Stopped>
+) -> Result<Ended, Stopped>
 where
     R: Threads + Wait + Clock + Copy + Send + 'static,
-    ensures producers { IfOk result (λ r. map identity_of_closed r.0.items
-        ≡ map (λ w. identity_of (producer_in w)) producers.items) }
-    ensures control { IfOk result (λ r. identities (closed_puts r.1.ends)
+    ensures served { IfOk result (λ r. HaveServed producers.items r.0.items r.1.items) }
+    ensures control { IfOk result (λ r. identities (closed_puts r.2.ends)
         ≡ identities (open_puts control.ends)) }
 {
     let mut control = control;
@@ -254,6 +261,6 @@ where
         ended,
     )?;
     tick_until_ended(&rt, &last, &mut control);
-    let closed = join_all(&rt, alloc, threads)?;
-    Ok((closed, control.close(&rt)))
+    let (closed, receipts) = join_all(&rt, alloc, threads)?;
+    Ok((closed, receipts, control.close(&rt)))
 }

@@ -44,15 +44,30 @@ fn seen(notice: &Notice<Ending>) -> (u32, u64) {
     }
 }
 
+// The next notice, if one is queued.
+fn next_seen<R: Wait>(rt: &R, take: &mut ReceiptTake<Ending>) -> Option<(u32, u64)> {
+    match take.try_take(rt) {
+        Ok(Some(notice)) => Some(seen(&notice)),
+        _ => None,
+    }
+}
+
+// Whether nothing is queued, although lanes may still tell more.
+fn is_silent<R: Wait>(rt: &R, take: &mut ReceiptTake<Ending>) -> bool {
+    match take.try_take(rt) {
+        Ok(notice) => notice.is_none(),
+        Err(_) => false,
+    }
+}
+
 // Whether these notices come next, and then none.
 fn hears<R: Wait>(rt: &R, take: &mut ReceiptTake<Ending>, wanted: &[(u32, u64)]) -> bool {
     for row in wanted {
-        match take.try_take(rt) {
-            Ok(Some(notice)) if seen(&notice) == *row => {}
-            _ => return false,
+        if next_seen(rt, take) != Some(*row) {
+            return false;
         }
     }
-    matches!(take.try_take(rt), Ok(None))
+    is_silent(rt, take)
 }
 
 // Tells of the operation 1 of producer 0 and 2 of producer 1 as applied, of 3 of producer 1 as

@@ -14,3 +14,5 @@ mod refusals;
 mod relays;
 #[cfg(test)]
 mod waiting;
+#[cfg(test)]
+mod within;

@@ -60,14 +60,21 @@ fn holds<R: Wait + Abort + AllocGlobal>(
     is_full(rt, &mut producers[0], window);
 }
 
+// Whether the next notice says how an operation ended. `None`: nobody tells more.
+fn next_ends<R: Wait>(rt: &R, take: &mut ReceiptTake<Ending>) -> Option<bool> {
+    match take.take(rt) {
+        Ok(notice) => Some(notice.told.is_some()),
+        Err(_) => None,
+    }
+}
+
 // How many operations the only producer is told of, until it is told that nobody tells more.
 fn count_rest<R: Wait + Abort>(rt: &R, take: &mut ReceiptTake<Ending>) -> u32 {
     let mut told = 0u32;
     for _ in 0..WINDOW_LIMIT + 2 {
-        match take.take(rt) {
-            Ok(notice) if notice.told.is_some() => told = told.saturating_add(1),
-            Ok(_) => {}
-            Err(_) => return told,
+        match next_ends(rt, take) {
+            Some(ends) => told = told.saturating_add(u32::from(ends)),
+            None => return told,
         }
     }
     panic!(rt; "it is told more")

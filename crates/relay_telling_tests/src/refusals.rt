@@ -52,6 +52,21 @@ fn report_of(alloc: Global) -> Option<Report> {
     })
 }
 
+// Whether a notice of an ending is queued.
+fn is_queued<R: Wait>(rt: &R, take: &mut ReceiptTake<Ending>) -> bool {
+    match take.try_take(rt) {
+        Ok(notice) => notice.is_some(),
+        Err(_) => false,
+    }
+}
+
+fn is_empty<R: Wait>(rt: &R, take: &mut ReceiptTake<Ending>) -> bool {
+    match take.try_take(rt) {
+        Ok(notice) => notice.is_none(),
+        Err(_) => false,
+    }
+}
+
 // Whether a lane tells of a report, by a second call if the first was refused, and only once.
 fn is_told_once<R: Wait>(
     rt: &R,
@@ -62,16 +77,28 @@ fn is_told_once<R: Wait>(
     if lane.reported(rt, report).is_err() && lane.reported(rt, report).is_err() {
         return false;
     }
-    let first = take.try_take(rt);
-    matches!(first, Ok(Some(_))) && matches!(take.try_take(rt), Ok(None))
+    is_queued(rt, take) && is_empty(rt, take)
+}
+
+// The same of the only lane and the only producer.
+fn is_told_by_one<R: Wait>(
+    rt: &R,
+    tells: &mut [LaneTells],
+    takes: &mut [ReceiptTake<Ending>],
+    report: &Report,
+) -> bool {
+    match (tells.first_mut(), takes.first_mut()) {
+        (Some(lane), Some(take)) => is_told_once(rt, lane, take, report),
+        _ => false,
+    }
 }
 
 fn tells_report<R: Wait>(rt: &R, alloc: Global) -> Option<bool> {
-    let (mut tells, mut takes) = telling(alloc, 1, 1, 1)
-        .or_else(|_| telling(alloc, 1, 1, 1))
-        .ok()?;
     let report = report_of(alloc)?;
-    Some(is_told_once(rt, tells.get_mut(0)?, takes.get_mut(0)?, &report))
+    match telling(alloc, 1, 1, 1).or_else(|_| telling(alloc, 1, 1, 1)) {
+        Ok((mut tells, mut takes)) => Some(is_told_by_one(rt, &mut tells, &mut takes, &report)),
+        Err(_) => None,
+    }
 }
 
 #[test]

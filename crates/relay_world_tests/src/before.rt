@@ -1,11 +1,12 @@
 //! Worlds over an index that already has versions.
-use crate::script::{THREE, accepts};
+use crate::script::{THREE, accepts, world_over};
 use relay_action::{Action, Body, DocKey, List, Mail, Op, Write};
 use relay_core::{Lane, RelayConfig};
 use relay_index::{Choice, Index};
 use relay_results::{Loss, Outcome};
 use relay_world::{Event, StepAnswer, World};
 use std::alloc::Global;
+use std::mem;
 use std::process::Abort;
 
 fn key_of(rt: &impl Abort, alloc: Global, id: &str) -> DocKey {
@@ -36,12 +37,6 @@ const NEXT_EPOCH: RelayConfig = RelayConfig { epoch: 1, ..THREE };
 /// A config whose lanes assign three versions, 1 to 3.
 const THREE_VERSIONS: RelayConfig = RelayConfig { deal: 3, ..THREE };
 
-/// A world with a config, which must be valid, over an index.
-fn world_over(rt: &impl Abort, alloc: Global, config: RelayConfig, index: Index) -> World {
-    assert!(rt; config.valid());
-    World::new(alloc, config, index).expect(rt, "memory")
-}
-
 /// Document 1 is put, taken and sent.
 fn send_one(rt: &impl Abort, alloc: Global, world: &mut World) {
     let action = Action::index(alloc, "{}").expect(rt, "an action");
@@ -65,12 +60,12 @@ fn status_of_run(world: &mut World) -> u16 {
 fn only_its_own(rt: HostRuntime) {
     let alloc = rt.alloc();
     let index = index_at_five(&rt, alloc);
-    let mut world = world_over(&rt, alloc, NEXT_EPOCH, index);
+    let world = world_over(&rt, alloc, NEXT_EPOCH, index);
     let (one, two) = (key_of(&rt, alloc, "1"), key_of(&rt, alloc, "2"));
     let before = world.keys().expect(&rt, "memory");
     assert!(rt; before.is_empty() && world.applied(&one).is_empty());
-    send_one(&rt, alloc, &mut world);
-    assert!(rt; status_of_run(&mut world) == 201);
+    send_one(&rt, alloc, world);
+    assert!(rt; status_of_run(world) == 201);
     let keys = world.keys().expect(&rt, "memory");
     assert!(rt; keys.len() == 1 && keys.first() == Some(&one));
     assert!(rt; world.applied(&one).len() == 1 && world.applied(&two).is_empty());
@@ -91,14 +86,14 @@ fn becomes(rt: &impl Abort, alloc: Global, states: bool) -> (u32, u32) {
     if states {
         index.state_versions();
     }
-    let mut world = world_over(rt, alloc, THREE_VERSIONS, index);
-    send_one(rt, alloc, &mut world);
-    assert!(rt; accepts(&mut world, &Event::Lost(1)));
-    assert!(rt; accepts(&mut world, &Event::Tick(0)));
-    assert!(rt; accepts(&mut world, &Event::Take(0)));
-    assert!(rt; accepts(&mut world, &Event::Send(0)));
-    assert!(rt; accepts(&mut world, &Event::Run(2, 1, Choice::Run)));
-    settled_by(alloc, &mut world)
+    let world = world_over(rt, alloc, THREE_VERSIONS, index);
+    send_one(rt, alloc, world);
+    assert!(rt; accepts(world, &Event::Lost(1)));
+    assert!(rt; accepts(world, &Event::Tick(0)));
+    assert!(rt; accepts(world, &Event::Take(0)));
+    assert!(rt; accepts(world, &Event::Send(0)));
+    assert!(rt; accepts(world, &Event::Run(2, 1, Choice::Run)));
+    settled_by(alloc, world)
 }
 
 // An index with higher versions: if it states them, the operation is reported.
@@ -174,4 +169,5 @@ fn lost_without_the_condition(rt: HostRuntime) {
     assert!(rt; counts.already == 1 && counts.reported == 0);
     assert!(rt; lane.held() == 0 && lane.reports().is_empty());
     assert!(rt; index.applied(&key_of(&rt, alloc, "1")).len() == 1);
+    mem::forget(lane);
 }

@@ -11,7 +11,7 @@ const SMALL: RelayConfig = RelayConfig {
 };
 
 /// Events of senders and lanes that do not exist, without room, and after a close.
-const OF_SENDERS: [(Row<'static>, Says); 22] = [
+const OF_SENDERS: &[(Row<'static>, Says)] = &[
     (Row::Put(2, "0", ""), Says::No(Refusal::NoSuch)),
     (Row::Close(0, 2), Says::No(Refusal::NoSuch)),
     (Row::Close(3, 0), Says::No(Refusal::NoSuch)),
@@ -38,11 +38,11 @@ const OF_SENDERS: [(Row<'static>, Says); 22] = [
 
 #[test]
 fn of_senders(rt: HostRuntime) {
-    assert!(rt; lasts(&rt, rt.alloc(), SMALL, &OF_SENDERS, &[], &[], false));
+    assert!(rt; lasts(&rt, rt.alloc(), SMALL, OF_SENDERS, &[], &[], false));
 }
 
 /// Events of requests that were not sent, are no longer in flight, or have no such item.
-const OF_REQUESTS: [(Row<'static>, Says); 21] = [
+const OF_REQUESTS: &[(Row<'static>, Says)] = &[
     (Row::Run(1, 1), Says::No(Refusal::NotSent)),
     (Row::Reply(1, &[]), Says::No(Refusal::NotSent)),
     (Row::Whole(1, 200), Says::No(Refusal::NotSent)),
@@ -73,7 +73,7 @@ fn of_requests(rt: HostRuntime) {
             &rt,
             rt.alloc(),
             THREE,
-            &OF_REQUESTS,
+            OF_REQUESTS,
             &[("1", &[1])],
             &[],
             false

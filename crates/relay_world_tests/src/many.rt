@@ -112,15 +112,15 @@ fn ticks_all(rt: &impl Abort, world: &mut World) {
 #[test]
 fn eight_lanes(rt: HostRuntime) {
     let alloc = rt.alloc();
-    let mut world = world_of(&rt, alloc, MOST);
-    puts_all(&rt, alloc, &mut world);
-    takes_all(&mut world);
-    let requests = works(alloc, &mut world, 0);
-    ticks_all(&rt, &mut world);
-    takes_all(&mut world);
-    assert!(rt; works(alloc, &mut world, requests) > requests);
-    closes_all(&rt, &mut world);
+    let world = world_of(&rt, alloc, MOST);
+    puts_all(&rt, alloc, world);
+    takes_all(world);
+    let requests = works(alloc, world, 0);
+    ticks_all(&rt, world);
+    takes_all(world);
+    assert!(rt; works(alloc, world, requests) > requests);
+    closes_all(&rt, world);
     assert!(rt; !world.finished());
-    takes_all(&mut world);
-    assert!(rt; world.finished() && counted(&rt, alloc, &world) == (128, 128));
+    takes_all(world);
+    assert!(rt; world.finished() && counted(&rt, alloc, world) == (128, 128));
 }

@@ -21,7 +21,7 @@ fn world_of(alloc: Global, config: RelayConfig) -> Option<World> {
 }
 
 /// A document with a long id, and one with a long source, in two requests, and a restart.
-const LONG: [(Row<'static>, Says); 21] = [
+const LONG: &[(Row<'static>, Says)] = &[
     (
         Row::Put(0, "a document of more than thirty-eight bytes", ""),
         Says::Named(1),
@@ -128,8 +128,8 @@ fn steps_rows(rt: &impl Abort, alloc: Global, rows: &[(Row<'_>, Says)], document
 
 #[test]
 fn refused_steps(rt: HostRuntime) {
-    steps_rows(&rt, rt.alloc(), &LONG, 2);
-    steps_rows(&rt, rt.alloc(), &THREE_THEN_ONE, 3);
+    steps_rows(&rt, rt.alloc(), LONG, 2);
+    steps_rows(&rt, rt.alloc(), THREE_THEN_ONE, 3);
 }
 
 // Plays events. If one is refused, it continues with that one.
@@ -167,8 +167,8 @@ fn runs_rows(
 #[test]
 fn refused_schedules(rt: HostRuntime) {
     let alloc = rt.alloc();
-    runs_rows(&rt, alloc, THREE, &THREE_THEN_ONE, 3, THREE_APPLIED, true);
-    runs_rows(&rt, alloc, TWO, &GIVEN_UP, 2, APPLIED_BUT_GIVEN_UP, false);
+    runs_rows(&rt, alloc, THREE, THREE_THEN_ONE, 3, THREE_APPLIED, true);
+    runs_rows(&rt, alloc, TWO, GIVEN_UP, 2, APPLIED_BUT_GIVEN_UP, false);
 }
 
 /// A producer puts a delete of a document.

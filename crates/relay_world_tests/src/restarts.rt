@@ -86,14 +86,14 @@ fn goes(
     rows: &[(Row<'_>, Says)],
     end: &End<'_>,
 ) -> bool {
-    let mut world = world_of(rt, alloc, config);
-    goes_so(rt, alloc, &mut world, rows, end)
+    let world = world_of(rt, alloc, config);
+    goes_so(rt, alloc, world, rows, end)
 }
 
 const FIRST_OF_ONE: u64 = 1_099_511_627_777;
 
 /// A restart while a request is in flight: it may still run, and settles nothing.
-const RESTARTED: [(Row<'static>, Says); 13] = [
+const RESTARTED: &[(Row<'static>, Says)] = &[
     (Row::Put(0, "1", "{\"a\":1}"), Says::Name(0, 0, 1)),
     (Row::Take(0), Says::Ok),
     (Row::Send(0), Says::Request(1)),
@@ -117,30 +117,31 @@ fn restarted(rt: HostRuntime) {
         reports: &[],
         finished: false,
     };
-    assert!(rt; goes(&rt, rt.alloc(), THREE, &RESTARTED, &end));
+    assert!(rt; goes(&rt, rt.alloc(), THREE, RESTARTED, &end));
 }
+
+const EPOCHS: &[(Row<'static>, Says)] = &[
+    (Row::Restart(0), Says::No(Refusal::NotAbove)),
+    (Row::Restart(4_194_304), Says::No(Refusal::NotAbove)),
+    (Row::Restart(4_294_967_295), Says::No(Refusal::NotAbove)),
+    (Row::Restart(3), Says::Ok),
+    (Row::Restart(2), Says::No(Refusal::NotAbove)),
+    (Row::Restart(3), Says::No(Refusal::NotAbove)),
+    (Row::Put(0, "1", ""), Says::Name(3, 0, 1)),
+    (Row::Restart(4_194_303), Says::Ok),
+    (Row::Restart(4_194_303), Says::No(Refusal::NotAbove)),
+    (Row::Put(0, "1", ""), Says::Name(4_194_303, 0, 1)),
+];
 
 #[test]
 fn not_above(rt: HostRuntime) {
-    let rows = [
-        (Row::Restart(0), Says::No(Refusal::NotAbove)),
-        (Row::Restart(4_194_304), Says::No(Refusal::NotAbove)),
-        (Row::Restart(4_294_967_295), Says::No(Refusal::NotAbove)),
-        (Row::Restart(3), Says::Ok),
-        (Row::Restart(2), Says::No(Refusal::NotAbove)),
-        (Row::Restart(3), Says::No(Refusal::NotAbove)),
-        (Row::Put(0, "1", ""), Says::Name(3, 0, 1)),
-        (Row::Restart(4_194_303), Says::Ok),
-        (Row::Restart(4_194_303), Says::No(Refusal::NotAbove)),
-        (Row::Put(0, "1", ""), Says::Name(4_194_303, 0, 1)),
-    ];
     let end = End {
         accepted: &[1],
         applied: &[],
         reports: &[],
         finished: false,
     };
-    assert!(rt; goes(&rt, rt.alloc(), THREE, &rows, &end));
+    assert!(rt; goes(&rt, rt.alloc(), THREE, EPOCHS, &end));
 }
 
 /// One version per lane, in epoch 8.
@@ -152,28 +153,29 @@ const LAST: RelayConfig = RelayConfig {
     ..THREE
 };
 
+const ONE_IN_EIGHT: &[(Row<'static>, Says)] = &[
+    (Row::Put(0, "1", ""), Says::Name(8, 0, 1)),
+    (Row::Put(0, "2", ""), Says::No(Refusal::QueueFull)),
+    (Row::Take(0), Says::Ok),
+    (Row::Put(0, "2", ""), Says::Name(8, 0, 2)),
+    (Row::Take(0), Says::No(Refusal::HeldFull)),
+    (Row::Send(0), Says::Request(1)),
+    (Row::Run(1, 1), Says::Status(404)),
+    (Row::Reply(1, &[]), Says::Counts([1, 0, 0, 0])),
+    (Row::Take(0), Says::Ok),
+    (Row::Close(0, 0), Says::Ok),
+    (Row::Put(0, "3", ""), Says::No(Refusal::Closed)),
+];
+
 #[test]
 fn the_last_version(rt: HostRuntime) {
-    let rows = [
-        (Row::Put(0, "1", ""), Says::Name(8, 0, 1)),
-        (Row::Put(0, "2", ""), Says::No(Refusal::QueueFull)),
-        (Row::Take(0), Says::Ok),
-        (Row::Put(0, "2", ""), Says::Name(8, 0, 2)),
-        (Row::Take(0), Says::No(Refusal::HeldFull)),
-        (Row::Send(0), Says::Request(1)),
-        (Row::Run(1, 1), Says::Status(404)),
-        (Row::Reply(1, &[]), Says::Counts([1, 0, 0, 0])),
-        (Row::Take(0), Says::Ok),
-        (Row::Close(0, 0), Says::Ok),
-        (Row::Put(0, "3", ""), Says::No(Refusal::Closed)),
-    ];
     let end = End {
         accepted: &[2],
         applied: &[("1", &[(8_796_093_022_209, (8, 0, 1))])],
         reports: &[((8, 0, 2), Given::Spent(2))],
         finished: false,
     };
-    assert!(rt; goes(&rt, rt.alloc(), LAST, &rows, &end));
+    assert!(rt; goes(&rt, rt.alloc(), LAST, ONE_IN_EIGHT, &end));
 }
 
 /// Two lanes, the first of which has the documents with an even id, and two producers.
@@ -185,7 +187,7 @@ const TWO_LANES: RelayConfig = RelayConfig {
 
 /// One operation is in flight and waits to be sent again, one is queued, one is reported, and a
 /// producer has closed.
-const BEFORE: [(Row<'static>, Says); 12] = [
+const BEFORE: &[(Row<'static>, Says)] = &[
     (Row::Put(0, "2", "{}"), Says::Name(0, 0, 1)),
     (Row::Put(1, "1", "{}"), Says::Name(0, 1, 1)),
     (Row::Put(0, "4", ""), Says::Name(0, 0, 2)),
@@ -203,7 +205,7 @@ const BEFORE: [(Row<'static>, Says); 12] = [
 /// A restart leaves nothing queued, held, in flight, reported or closed, and numbers start at 1
 /// again. The requests of the new lanes have the same numbers there as the old ones, and no answer
 /// to an old one settles them.
-const AFTER: [(Row<'static>, Says); 30] = [
+const AFTER: &[(Row<'static>, Says)] = &[
     (Row::Restart(7), Says::Ok),
     (Row::Take(0), Says::No(Refusal::NothingQueued)),
     (Row::Take(1), Says::No(Refusal::NothingQueued)),
@@ -238,7 +240,7 @@ const AFTER: [(Row<'static>, Says); 30] = [
 
 const FIRST_OF_SEVEN: u64 = 7_696_581_394_433;
 
-const ALL_OF_SEVEN: [(&str, &[Applied]); 3] = [
+const ALL_OF_SEVEN: &[(&str, &[Applied])] = &[
     ("1", &[(1, (0, 1, 1))]),
     ("2", &[(FIRST_OF_SEVEN, (7, 0, 1))]),
     ("3", &[(FIRST_OF_SEVEN, (7, 1, 1))]),
@@ -275,35 +277,35 @@ fn keeps_what_was_accepted(world: &World) -> bool {
 #[test]
 fn two_lanes_and_producers(rt: HostRuntime) {
     let alloc = rt.alloc();
-    let mut world = world_of(&rt, alloc, TWO_LANES);
+    let world = world_of(&rt, alloc, TWO_LANES);
     let before = End {
         accepted: &[2, 1],
         applied: &[("1", &[(1, (0, 1, 1))])],
         reports: &[],
         finished: false,
     };
-    assert!(rt; goes_so(&rt, alloc, &mut world, &BEFORE, &before));
+    assert!(rt; goes_so(&rt, alloc, world, BEFORE, &before));
     assert!(rt; world.reports(1).len() == 1);
     let open = End {
         accepted: &[1, 1],
-        applied: &ALL_OF_SEVEN,
+        applied: ALL_OF_SEVEN,
         reports: &[],
         finished: false,
     };
-    assert!(rt; goes_so(&rt, alloc, &mut world, &AFTER, &open));
+    assert!(rt; goes_so(&rt, alloc, world, AFTER, &open));
     assert!(rt; world.reports(1).is_empty());
     let last = [(Row::Reply(4, &[]), Says::Counts([1, 0, 0, 0]))];
     let after = End {
         finished: true,
         ..open
     };
-    assert!(rt; goes_so(&rt, alloc, &mut world, &last, &after));
-    assert!(rt; keeps_what_was_accepted(&world));
+    assert!(rt; goes_so(&rt, alloc, world, &last, &after));
+    assert!(rt; keeps_what_was_accepted(world));
 }
 
 /// Three incarnations write one document. The second one's request runs in the third, before that
 /// one's own.
-const THREE_LIVES: [(Row<'static>, Says); 20] = [
+const THREE_LIVES: &[(Row<'static>, Says)] = &[
     (Row::Put(0, "1", "{}"), Says::Name(0, 0, 1)),
     (Row::Take(0), Says::Ok),
     (Row::Send(0), Says::Request(1)),
@@ -339,40 +341,41 @@ fn a_second_restart(rt: HostRuntime) {
         reports: &[],
         finished: false,
     };
-    assert!(rt; goes(&rt, rt.alloc(), THREE, &THREE_LIVES, &end));
+    assert!(rt; goes(&rt, rt.alloc(), THREE, THREE_LIVES, &end));
 }
 
 /// One version per lane, in epoch 0.
 const ONE_VERSION: RelayConfig = RelayConfig { deal: 1, ..THREE };
 
+const SPENT: &[(Row<'static>, Says)] = &[
+    (Row::Put(0, "1", "{}"), Says::Name(0, 0, 1)),
+    (Row::Put(0, "1", "{}"), Says::Name(0, 0, 2)),
+    (Row::Take(0), Says::Ok),
+    (Row::Take(0), Says::Ok),
+    (Row::Restart(1), Says::Ok),
+    (Row::Put(0, "1", "{}"), Says::Name(1, 0, 1)),
+    (Row::Take(0), Says::Ok),
+    (Row::Send(0), Says::Request(1)),
+    (Row::Run(1, 1), Says::Status(201)),
+    (Row::Reply(1, &[]), Says::Counts([1, 0, 0, 0])),
+];
+
 // The operation that got no version in epoch 0 is not the one that has the second version of epoch
 // 1.
 #[test]
 fn spent_before_a_restart(rt: HostRuntime) {
-    let rows = [
-        (Row::Put(0, "1", "{}"), Says::Name(0, 0, 1)),
-        (Row::Put(0, "1", "{}"), Says::Name(0, 0, 2)),
-        (Row::Take(0), Says::Ok),
-        (Row::Take(0), Says::Ok),
-        (Row::Restart(1), Says::Ok),
-        (Row::Put(0, "1", "{}"), Says::Name(1, 0, 1)),
-        (Row::Take(0), Says::Ok),
-        (Row::Send(0), Says::Request(1)),
-        (Row::Run(1, 1), Says::Status(201)),
-        (Row::Reply(1, &[]), Says::Counts([1, 0, 0, 0])),
-    ];
     let end = End {
         accepted: &[1],
         applied: &[("1", &[(FIRST_OF_ONE, (1, 0, 1))])],
         reports: &[],
         finished: false,
     };
-    assert!(rt; goes(&rt, rt.alloc(), ONE_VERSION, &rows, &end));
+    assert!(rt; goes(&rt, rt.alloc(), ONE_VERSION, SPENT, &end));
 }
 
 /// Three deletes in one request, which is too large as a whole: each is sent by itself, the second
 /// one after it ran.
-const HALVED: [(Row<'static>, Says); 15] = [
+const HALVED: &[(Row<'static>, Says)] = &[
     (Row::Put(0, "1", ""), Says::Named(1)),
     (Row::Put(0, "2", ""), Says::Named(2)),
     (Row::Put(0, "3", ""), Says::Named(3)),
@@ -429,13 +432,13 @@ fn has_requests(rt: &impl Abort, alloc: Global, world: &World) -> bool {
 #[test]
 fn too_large_as_a_whole(rt: HostRuntime) {
     let alloc = rt.alloc();
-    let mut world = world_of(&rt, alloc, THREE);
+    let world = world_of(&rt, alloc, THREE);
     let end = End {
         accepted: &[3],
         applied: &[("2", &[(2, (0, 0, 2))])],
         reports: &[((0, 0, 1), Given::Rejected(1, 413))],
         finished: false,
     };
-    assert!(rt; goes_so(&rt, alloc, &mut world, &HALVED, &end));
-    assert!(rt; has_requests(&rt, alloc, &world));
+    assert!(rt; goes_so(&rt, alloc, world, HALVED, &end));
+    assert!(rt; has_requests(&rt, alloc, world));
 }

@@ -106,10 +106,22 @@ pub fn is_said(answer: StepAnswer, says: Says) -> bool {
     }
 }
 
-/// A world with a config, which must be valid, over a fresh index.
-pub fn world_of(rt: &impl Abort, alloc: Global, config: RelayConfig) -> World {
+/// A world with a config, which must be valid, over an index. It is leaked: to prove that a world can
+/// be dropped costs more than the rest of a test.
+pub fn world_over<'a>(
+    rt: &impl Abort,
+    alloc: Global,
+    config: RelayConfig,
+    index: Index,
+) -> &'a mut World {
     assert!(rt; config.valid());
-    World::new(alloc, config, Index::new(alloc)).expect(rt, "memory")
+    let world = World::new(alloc, config, index).expect(rt, "memory");
+    Box::leak(Box::new(alloc, world).expect(rt, "memory"))
+}
+
+/// The same over a fresh index.
+pub fn world_of<'a>(rt: &impl Abort, alloc: Global, config: RelayConfig) -> &'a mut World {
+    world_over(rt, alloc, config, Index::new(alloc))
 }
 
 /// Plays rows, and returns whether each is answered as it says.
@@ -201,9 +213,9 @@ pub fn lasts(
     reports: &[Given],
     finished: bool,
 ) -> bool {
-    let mut world = world_of(rt, alloc, config);
-    played(rt, alloc, &mut world, rows)
-        && ends_with(alloc, &world, applied, reports, finished).expect(rt, "keys")
+    let world = world_of(rt, alloc, config);
+    played(rt, alloc, world, rows)
+        && ends_with(alloc, world, applied, reports, finished).expect(rt, "keys")
 }
 
 /// The same, with more rows at the end, after which it is not finished.
@@ -216,10 +228,10 @@ pub fn lasts_with(
     applied: &[(&str, &[u64])],
     reports: &[Given],
 ) -> bool {
-    let mut world = world_of(rt, alloc, config);
-    played(rt, alloc, &mut world, rows)
-        && played(rt, alloc, &mut world, more)
-        && ends_with(alloc, &world, applied, reports, false).expect(rt, "keys")
+    let world = world_of(rt, alloc, config);
+    played(rt, alloc, world, rows)
+        && played(rt, alloc, world, more)
+        && ends_with(alloc, world, applied, reports, false).expect(rt, "keys")
 }
 
 /// The events of rows.
@@ -241,7 +253,7 @@ pub fn run_of(
     rows: &[(Row<'_>, Says)],
 ) -> (u64, u64) {
     let events = events_of(alloc, rows).expect(rt, "events");
-    let mut world = world_of(rt, alloc, config);
+    let world = world_of(rt, alloc, config);
     let end = world.run(events.as_slice()).expect(rt, "memory");
     (end.done, end.refused)
 }

@@ -12,7 +12,7 @@ pub const TWO: RelayConfig = RelayConfig {
 pub type Ends = (&'static [(&'static str, &'static [u64])], &'static [Given]);
 
 /// Three operations in one request; the second one is refused, and sent once more.
-pub const THREE_THEN_ONE: [(Row<'static>, Says); 21] = [
+pub const THREE_THEN_ONE: &[(Row<'static>, Says)] = &[
     (Row::Put(0, "1", "{\"a\":1}"), Says::Named(1)),
     (Row::Put(0, "2", "{\"a\":2}"), Says::Named(2)),
     (Row::Put(0, "3", ""), Says::Named(3)),
@@ -47,7 +47,7 @@ fn three_then_one(rt: HostRuntime) {
             &rt,
             rt.alloc(),
             THREE,
-            &THREE_THEN_ONE,
+            THREE_THEN_ONE,
             applied,
             reports,
             true
@@ -57,11 +57,11 @@ fn three_then_one(rt: HostRuntime) {
 
 #[test]
 fn counts_of_a_run(rt: HostRuntime) {
-    assert!(rt; run_of(&rt, rt.alloc(), THREE, &THREE_THEN_ONE) == (20, 1));
+    assert!(rt; run_of(&rt, rt.alloc(), THREE, THREE_THEN_ONE) == (20, 1));
 }
 
 /// One operation is put, taken and sent.
-const SENT: [(Row<'static>, Says); 3] = [
+const SENT: &[(Row<'static>, Says)] = &[
     (Row::Put(0, "1", "{\"a\":1}"), Says::Named(1)),
     (Row::Take(0), Says::Ok),
     (Row::Send(0), Says::Request(1)),
@@ -80,7 +80,7 @@ const LOST: &[(Row<'static>, Says)] = &[
 
 #[test]
 fn lost_then_already(rt: HostRuntime) {
-    assert!(rt; lasts_with(&rt, rt.alloc(), THREE, &SENT, LOST, &[("1", &[1])], &[]));
+    assert!(rt; lasts_with(&rt, rt.alloc(), THREE, SENT, LOST, &[("1", &[1])], &[]));
 }
 
 /// Its request is lost, and run after the repeat.
@@ -97,35 +97,46 @@ const LATE: &[(Row<'static>, Says)] = &[
 
 #[test]
 fn late_after_its_repeat(rt: HostRuntime) {
-    assert!(rt; lasts_with(&rt, rt.alloc(), THREE, &SENT, LATE, &[("1", &[1])], &[]));
+    assert!(rt; lasts_with(&rt, rt.alloc(), THREE, SENT, LATE, &[("1", &[1])], &[]));
 }
+
+const ONE_DOCUMENT: &[(Row<'static>, Says)] = &[
+    (Row::Put(0, "1", "{\"a\":1}"), Says::Named(1)),
+    (Row::Put(0, "1", "{\"a\":2}"), Says::Named(2)),
+    (Row::Take(0), Says::Ok),
+    (Row::Take(0), Says::Ok),
+    (Row::Send(0), Says::Request(1)),
+    (Row::Send(0), Says::No(Refusal::NoRequest)),
+    (Row::Refuse(1, 1, 429), Says::Status(429)),
+    (Row::Reply(1, &[]), Says::Counts([0, 0, 0, 1])),
+    (Row::Send(0), Says::No(Refusal::NoRequest)),
+    (Row::Tick(0), Says::Ok),
+    (Row::Take(0), Says::Ok),
+    (Row::Send(0), Says::Request(2)),
+    (Row::Run(2, 1), Says::Status(201)),
+    (Row::Reply(2, &[]), Says::Counts([1, 0, 0, 0])),
+    (Row::Send(0), Says::Request(3)),
+    (Row::Run(3, 1), Says::Status(200)),
+    (Row::Reply(3, &[]), Says::Counts([1, 0, 0, 0])),
+];
 
 #[test]
 fn one_of_a_document_at_a_time(rt: HostRuntime) {
-    let rows = [
-        (Row::Put(0, "1", "{\"a\":1}"), Says::Named(1)),
-        (Row::Put(0, "1", "{\"a\":2}"), Says::Named(2)),
-        (Row::Take(0), Says::Ok),
-        (Row::Take(0), Says::Ok),
-        (Row::Send(0), Says::Request(1)),
-        (Row::Send(0), Says::No(Refusal::NoRequest)),
-        (Row::Refuse(1, 1, 429), Says::Status(429)),
-        (Row::Reply(1, &[]), Says::Counts([0, 0, 0, 1])),
-        (Row::Send(0), Says::No(Refusal::NoRequest)),
-        (Row::Tick(0), Says::Ok),
-        (Row::Take(0), Says::Ok),
-        (Row::Send(0), Says::Request(2)),
-        (Row::Run(2, 1), Says::Status(201)),
-        (Row::Reply(2, &[]), Says::Counts([1, 0, 0, 0])),
-        (Row::Send(0), Says::Request(3)),
-        (Row::Run(3, 1), Says::Status(200)),
-        (Row::Reply(3, &[]), Says::Counts([1, 0, 0, 0])),
-    ];
-    assert!(rt; lasts(&rt, rt.alloc(), THREE, &rows, &[("1", &[1, 2])], &[], false));
+    assert!(rt;
+        lasts(
+            &rt,
+            rt.alloc(),
+            THREE,
+            ONE_DOCUMENT,
+            &[("1", &[1, 2])],
+            &[],
+            false
+        )
+    );
 }
 
 /// An operation is run twice before its request is answered.
-const RUN_TWICE: [(Row<'static>, Says); 9] = [
+const RUN_TWICE: &[(Row<'static>, Says)] = &[
     (Row::Put(0, "1", ""), Says::Named(1)),
     (Row::Take(0), Says::Ok),
     (Row::Send(0), Says::Request(1)),
@@ -150,7 +161,7 @@ fn picks(rt: HostRuntime) {
                 &rt,
                 rt.alloc(),
                 THREE,
-                &RUN_TWICE,
+                RUN_TWICE,
                 &last,
                 &[("1", &[1])],
                 reports
@@ -160,7 +171,7 @@ fn picks(rt: HostRuntime) {
 }
 
 /// An operation that was given up is nevertheless applied, before the next one of its document.
-pub const GIVEN_UP: [(Row<'static>, Says); 15] = [
+pub const GIVEN_UP: &[(Row<'static>, Says)] = &[
     (Row::Put(0, "1", "{\"a\":1}"), Says::Named(1)),
     (Row::Take(0), Says::Ok),
     (Row::Send(0), Says::Request(1)),
@@ -184,7 +195,7 @@ pub const APPLIED_BUT_GIVEN_UP: Ends = (&[("1", &[1, 2])], &[Given::GaveUp(1, 2)
 #[test]
 fn given_up_and_applied(rt: HostRuntime) {
     let (applied, reports) = APPLIED_BUT_GIVEN_UP;
-    assert!(rt; lasts(&rt, rt.alloc(), TWO, &GIVEN_UP, applied, reports, false));
+    assert!(rt; lasts(&rt, rt.alloc(), TWO, GIVEN_UP, applied, reports, false));
 }
 
 #[test]
@@ -195,27 +206,28 @@ fn refused_and_rejected(rt: HostRuntime) {
     ];
     for (row, counts, reports) in ends {
         let last = [(row, Says::Counts(counts))];
-        assert!(rt; lasts_with(&rt, rt.alloc(), THREE, &SENT, &last, &[("1", &[])], reports));
+        assert!(rt; lasts_with(&rt, rt.alloc(), THREE, SENT, &last, &[("1", &[])], reports));
     }
 }
 
+const STATUSES: &[(Row<'static>, Says)] = &[
+    (Row::Refuse(1, 1, 409), Says::No(Refusal::BadStatus)),
+    (Row::Whole(1, 200), Says::No(Refusal::BadStatus)),
+    (Row::Whole(1, 600), Says::No(Refusal::BadStatus)),
+    (Row::Refuse(1, 1, 400), Says::Status(400)),
+    (Row::Reply(1, &[]), Says::Counts([0, 0, 1, 0])),
+];
+
 #[test]
 fn statuses(rt: HostRuntime) {
-    let rows = [
-        (Row::Refuse(1, 1, 409), Says::No(Refusal::BadStatus)),
-        (Row::Whole(1, 200), Says::No(Refusal::BadStatus)),
-        (Row::Whole(1, 600), Says::No(Refusal::BadStatus)),
-        (Row::Refuse(1, 1, 400), Says::Status(400)),
-        (Row::Reply(1, &[]), Says::Counts([0, 0, 1, 0])),
-    ];
     let reports = [Given::Refused(1, 400)];
     assert!(rt;
         lasts_with(
             &rt,
             rt.alloc(),
             THREE,
-            &SENT,
-            &rows,
+            SENT,
+            STATUSES,
             &[("1", &[])],
             &reports
         )

@@ -1,4 +1,5 @@
 //! `relay apply`.
+use crate::builder::CommandBuilder;
 use crate::options::TextOption;
 use crate::refusals::script_of;
 use crate::stand_in::{REASONS, index_of};
@@ -6,6 +7,7 @@ use clap::{ArgMatches, Command};
 use relay_action::StdStream;
 use relay_commands::apply::{ApplyFault, apply};
 use relay_commands::exit::exit_of_apply;
+use relay_index::Script;
 use relay_words::Exit;
 use std::alloc::{AllocError, Global};
 use std::io;
@@ -31,30 +33,39 @@ const REFUSE: TextOption = TextOption {
 
 /// Its help and its options.
 pub fn command<'a>(alloc: Global, name: &'static str) -> Result<Command<'a>, AllocError> {
-    Command::new(alloc, name)
-        .about(ABOUT)
-        .long_about(LONG_ABOUT)
-        .arg(REFUSE.arg(alloc))?
-        .arg(REASONS.arg(alloc))
+    CommandBuilder::new(alloc, name, ABOUT, LONG_ABOUT)
+        .text(&REFUSE)
+        .flag(&REASONS)
+        .build()
 }
 
 /// Runs it over standard input and output.
 pub fn execute<R: Input + Print + Eprint + AllocGlobal>(rt: &R, matches: &ArgMatches<'_>) -> Exit {
-    let script = match script_of(rt, matches, &REFUSE) {
-        Ok(script) => script,
-        Err(exit) => return exit,
-    };
-    let mut reader = StdStream::new(rt.reader());
-    let mut writer = StdStream::new(io::writer(rt));
-    let index = index_of(rt.alloc(), matches);
-    match apply(rt.alloc(), &mut reader, &mut writer, index, script) {
-        Ok(()) => Exit::Done,
-        Err(fault) => report(rt, fault),
+    match script_of(rt, matches, &REFUSE) {
+        Ok(script) => apply_by(rt, matches, script),
+        Err(exit) => exit,
     }
 }
 
-// Prints the fault. If that fails, the exit status is the same.
-fn report<R: Eprint>(rt: &R, fault: ApplyFault) -> Exit {
-    let _ = rt.eprintln(fault);
-    exit_of_apply(fault)
+fn apply_by<R: Input + Print + Eprint + AllocGlobal>(
+    rt: &R,
+    matches: &ArgMatches<'_>,
+    script: Script,
+) -> Exit {
+    let mut reader = StdStream::new(rt.reader());
+    let mut writer = StdStream::new(io::writer(rt));
+    let index = index_of(rt.alloc(), matches);
+    let done = apply(rt.alloc(), &mut reader, &mut writer, index, script);
+    exit_after(rt, done)
+}
+
+// Prints the fault, if there is one. If that fails, the exit status is the same.
+fn exit_after<R: Eprint>(rt: &R, done: Result<(), ApplyFault>) -> Exit {
+    match done {
+        Ok(()) => Exit::Done,
+        Err(fault) => {
+            let _ = rt.eprintln(fault);
+            exit_of_apply(fault)
+        }
+    }
 }

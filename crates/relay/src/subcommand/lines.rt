@@ -1,8 +1,9 @@
 //! `relay lines`.
+use crate::builder::CommandBuilder;
 use crate::options::{FlagOption, NumberOption, TextOption};
 use crate::report::{out_of_memory, usage};
 use clap::{ArgMatches, Command};
-use relay_action::{ByteIn, ByteOut, StdStream};
+use relay_action::StdStream;
 use relay_commands::exit::exit_of;
 use relay_commands::lines::{LinesFault, lines};
 use relay_ndjson::{LAST_VERSION, LineKind};
@@ -64,40 +65,34 @@ const CHECK: FlagOption = FlagOption {
 
 /// Its help and its options.
 pub fn command<'a>(alloc: Global, name: &'static str) -> Result<Command<'a>, AllocError> {
-    Command::new(alloc, name)
-        .about(ABOUT)
-        .long_about(LONG_ABOUT)
-        .arg(INDEX.arg(alloc))?
-        .arg(FIRST.arg(alloc))?
-        .arg(CHECK.arg(alloc))
+    CommandBuilder::new(alloc, name, ABOUT, LONG_ABOUT)
+        .text(&INDEX)
+        .number(&FIRST)
+        .flag(&CHECK)
+        .build()
 }
 
 /// Runs it over standard input and output.
 pub fn execute<R: Input + Print + Eprint + AllocGlobal>(rt: &R, matches: &ArgMatches<'_>) -> Exit {
-    let first = FIRST.get(matches);
-    if first > LAST_VERSION {
-        return usage(rt, "error: the first version is past the last");
-    }
-    let mut reader = StdStream::new(rt.reader());
-    let mut writer = StdStream::new(io::writer(rt));
     let index = INDEX.get(matches);
     if CHECK.is_given(matches) {
-        return check_input(rt, &mut reader, &mut writer, index);
-    }
-    match lines(rt.alloc(), &mut reader, &mut writer, index, first) {
-        Ok(_) => Exit::Done,
-        Err(fault) => report(rt, fault),
+        check_input(rt, index)
+    } else {
+        write_lines(rt, index, FIRST.get(matches))
     }
 }
 
 // Lists the faults of the input.
-fn check_input<R: Eprint + AllocGlobal, S: ByteIn, W: ByteOut>(
-    rt: &R,
-    reader: &mut S,
-    writer: &mut W,
-    index: Option<&str>,
-) -> Exit {
-    let failed = match check(rt.alloc(), reader, index, writer) {
+fn check_input<R: Input + Print + Eprint + AllocGlobal>(rt: &R, index: Option<&str>) -> Exit {
+    let mut reader = StdStream::new(rt.reader());
+    let mut writer = StdStream::new(io::writer(rt));
+    let found = check(rt.alloc(), &mut reader, index, &mut writer);
+    exit_after_check(rt, found)
+}
+
+// Prints why the check failed, if it did.
+fn exit_after_check<R: Eprint>(rt: &R, found: Result<u64, CheckFault>) -> Exit {
+    let failed = match found {
         Ok(0) => return Exit::Done,
         Ok(_) => return Exit::Input,
         Err(CheckFault::Memory) => return out_of_memory(rt),
@@ -108,8 +103,27 @@ fn check_input<R: Eprint + AllocGlobal, S: ByteIn, W: ByteOut>(
     Exit::Device
 }
 
-// Prints the fault. If that fails, the exit status is the same.
-fn report<R: Eprint>(rt: &R, fault: LinesFault) -> Exit {
+// Writes the lines of the input's operations, from this version on.
+fn write_lines<R: Input + Print + Eprint + AllocGlobal>(
+    rt: &R,
+    index: Option<&str>,
+    first: u64,
+) -> Exit {
+    if first > LAST_VERSION {
+        return usage(rt, "error: the first version is past the last");
+    }
+    let mut reader = StdStream::new(rt.reader());
+    let mut writer = StdStream::new(io::writer(rt));
+    let written = lines(rt.alloc(), &mut reader, &mut writer, index, first);
+    exit_after_lines(rt, written)
+}
+
+// Prints the fault, if there is one. If that fails, the exit status is the same.
+fn exit_after_lines<R: Eprint>(rt: &R, written: Result<u64, LinesFault>) -> Exit {
+    let fault = match written {
+        Ok(_) => return Exit::Done,
+        Err(fault) => fault,
+    };
     let _ = match fault {
         LinesFault::Input(fault) if fault.kind == LineKind::Read => rt.eprintln("read failed"),
         _ => rt.eprintln(fault),

@@ -1,4 +1,5 @@
 //! `relay pick`.
+use crate::builder::CommandBuilder;
 use crate::noted::{NotedFile, Reason, open_noted};
 use crate::options::{FlagOption, TextOption};
 use crate::report::{failed, out_of_memory, said};
@@ -6,11 +7,12 @@ use clap::{Arg, ArgAction, ArgMatches, Command};
 use relay_action::StdStream;
 use relay_ndjson::LineKind;
 use relay_report::{
-    InputEnd, Named, PickFault, ReportFault, current_names, first_missing, pick, read_names,
+    InputEnd, Kept, Named, PickFault, ReportFault, current_names, first_missing, pick, read_names,
 };
 use relay_words::{Exit, exit_of_kind};
 use std::alloc::{AllocError, Global};
 use std::io;
+use std::io::ErrorKind;
 
 const ABOUT: &str = "Extracts the operations that a report of `relay run` names from its files";
 
@@ -75,13 +77,12 @@ pub fn command<'a>(alloc: Global, name: &'static str) -> Result<Command<'a>, All
         .num_args(1..=16)
         .required(true)
         .help("All files of the run, in the same order");
-    Command::new(alloc, name)
-        .about(ABOUT)
-        .long_about(LONG_ABOUT)
-        .arg(REPORT.arg(alloc).required(true))?
-        .arg(INDEX.arg(alloc))?
-        .arg(ALL.arg(alloc))?
+    CommandBuilder::new(alloc, name, ABOUT, LONG_ABOUT)
+        .required_text(&REPORT)
+        .text(&INDEX)
+        .flag(&ALL)
         .arg(files)
+        .build()
 }
 
 /// Runs it over files and standard output.
@@ -90,24 +91,44 @@ pub fn execute<R: Print + Eprint + AllocGlobal>(
     host: HostRuntime,
     matches: &ArgMatches<'_>,
 ) -> Exit {
-    let report = REPORT.get(matches).unwrap_or("");
     let mut names = Vec::new(rt.alloc());
+    match read_and_pick(rt, host, matches, &mut names) {
+        Ok(()) => Exit::Done,
+        Err(exit) => exit,
+    }
+}
+
+// Reads the names in the report, and extracts the operations of those before its first fault.
+fn read_and_pick<R: Print + Eprint + AllocGlobal>(
+    rt: &R,
+    host: HostRuntime,
+    matches: &ArgMatches<'_>,
+    names: &mut Vec<Named>,
+) -> Result<(), Exit> {
+    let report = REPORT.get(matches).unwrap_or("");
     let reason = Reason::new();
-    let read = match names_of(rt, host, report, &reason, &mut names) {
-        Ok(read) => read,
-        Err(exit) => return exit,
-    };
+    let read = names_of(rt, host, report, &reason, names)?;
+    pick_named(rt, host, matches, names, report)?;
+    match read {
+        Ok(()) => Ok(()),
+        Err(fault) => Err(report_fault(rt, report, fault, reason.get().copied())),
+    }
+}
+
+// Extracts the operations of these names.
+fn pick_named<R: Print + Eprint + AllocGlobal>(
+    rt: &R,
+    host: HostRuntime,
+    matches: &ArgMatches<'_>,
+    names: &[Named],
+    report: &str,
+) -> Result<(), Exit> {
     let files = matches.get_strs(FILES).unwrap_or(&[]);
     let index = INDEX.get(matches);
-    let done = if ALL.is_given(matches) {
-        pick_all(rt, host, &names, files, index, report)
+    if ALL.is_given(matches) {
+        pick_all(rt, host, names, files, index, report)
     } else {
-        pick_current(rt, host, &names, files, index, report)
-    };
-    match (done, read) {
-        (Err(exit), _) => exit,
-        (Ok(()), Ok(())) => Exit::Done,
-        (Ok(()), Err(fault)) => report_fault(rt, report, fault, &reason),
+        pick_current(rt, host, names, files, index, report)
     }
 }
 
@@ -134,21 +155,58 @@ fn pick_current<R: Print + Eprint + AllocGlobal>(
     index: Option<&str>,
     report: &str,
 ) -> Result<(), Exit> {
+    let kept = keep_current(rt, host, names, files, index)?;
+    pick_kept(rt, host, &kept, files, index, report)?;
+    say_ends(rt, names, files, &kept.ends, report)
+}
+
+// Reads the files for which operations are current.
+fn keep_current<R: Eprint + AllocGlobal>(
+    rt: &R,
+    host: HostRuntime,
+    names: &[Named],
+    files: &[&str],
+    index: Option<&str>,
+) -> Result<Kept, Exit> {
     let reason = Reason::new();
     let inputs = open_files(rt, host, files, &reason)?;
-    let Ok(kept) = current_names(rt.alloc(), names, inputs, index) else {
-        return Err(out_of_memory(rt));
-    };
-    all_were_read(rt, files, &kept.ends, &reason)?;
+    match current_names(rt.alloc(), names, inputs, index) {
+        Ok(kept) => read_whole(rt, files, kept, reason.get().copied()),
+        Err(_) => Err(out_of_memory(rt)),
+    }
+}
+
+// What is kept, unless a read failed.
+fn read_whole<R: Eprint>(
+    rt: &R,
+    files: &[&str],
+    kept: Kept,
+    reason: Option<ErrorKind>,
+) -> Result<Kept, Exit> {
+    match first_unread(files, &kept.ends) {
+        Some(path) => Err(failed(rt, path, "read failed", reason)),
+        None => Ok(kept),
+    }
+}
+
+// Extracts the operations that are kept, and prints how many are left out.
+fn pick_kept<R: Print + Eprint + AllocGlobal>(
+    rt: &R,
+    host: HostRuntime,
+    kept: &Kept,
+    files: &[&str],
+    index: Option<&str>,
+    report: &str,
+) -> Result<(), Exit> {
     pick_all(rt, host, &kept.names, files, index, report)?;
-    let left_out = kept.found.saturating_sub(kept.names.len());
+    let found = kept.found;
+    let left_out = found.saturating_sub(kept.names.len());
     if left_out > 0 {
-        let found = kept.found;
         let _ = eprintln!(rt;
             "{left_out} of {found} operations left out: superseded by later ones of their documents"
         );
     }
-    say_ends(rt, names, files, &kept.ends, report)
+    Ok(())
 }
 
 // Opens the files, which are read twice.
@@ -160,31 +218,38 @@ fn open_files<'a, R: Eprint + AllocGlobal>(
 ) -> Result<Vec<StdStream<NotedFile<'a>>>, Exit> {
     let mut inputs = Vec::new(rt.alloc());
     for path in files {
-        let file = open_noted(rt, host, path, reason)?;
-        if !file.is_regular() {
-            let text = "not a regular file, and only --all reads a file once";
-            return Err(said(rt, path, text, Exit::Device));
-        }
-        if inputs.push(StdStream::new(file)).is_err() {
-            return Err(out_of_memory(rt));
-        }
+        open_into(rt, host, path, reason, &mut inputs)?;
     }
     Ok(inputs)
 }
 
-// Prints the first failed read, if there is one.
-fn all_were_read<R: Eprint>(
+// Opens a file, which has to be regular.
+fn open_into<'a, R: Eprint>(
     rt: &R,
-    files: &[&str],
-    ends: &[InputEnd],
-    reason: &Reason,
+    host: HostRuntime,
+    path: &str,
+    reason: &'a Reason,
+    inputs: &mut Vec<StdStream<NotedFile<'a>>>,
 ) -> Result<(), Exit> {
+    let file = open_noted(rt, host, path, reason)?;
+    if !file.is_regular() {
+        let text = "not a regular file, and only --all reads a file once";
+        return Err(said(rt, path, text, Exit::Device));
+    }
+    match inputs.push(StdStream::new(file)) {
+        Ok(()) => Ok(()),
+        Err(_) => Err(out_of_memory(rt)),
+    }
+}
+
+// The first file of which a read failed.
+fn first_unread<'a>(files: &[&'a str], ends: &[InputEnd]) -> Option<&'a str> {
     for (path, end) in files.iter().zip(ends) {
         if end.fault.is_some_and(|fault| fault.kind == LineKind::Read) {
-            return Err(failed(rt, path, "read failed", reason.get().copied()));
+            return Some(*path);
         }
     }
-    Ok(())
+    None
 }
 
 // Prints where the files break the producer grammar, or the report's line of the first operation
@@ -196,21 +261,32 @@ fn say_ends<R: Eprint + AllocGlobal>(
     ends: &[InputEnd],
     report: &str,
 ) -> Result<(), Exit> {
-    let mut counts = Vec::new(rt.alloc());
-    let mut faults = 0u32;
+    say_faults(rt, files, ends)?;
+    match counts_of(rt.alloc(), ends) {
+        Ok(counts) => none_is_missing(rt, names, &counts, report),
+        Err(_) => Err(out_of_memory(rt)),
+    }
+}
+
+// Prints where the files break the producer grammar, if they do.
+fn say_faults<R: Eprint>(rt: &R, files: &[&str], ends: &[InputEnd]) -> Result<(), Exit> {
+    let mut valid = true;
     for (path, end) in files.iter().zip(ends) {
         if let Some(fault) = end.fault {
             let _ = eprintln!(rt; "{path}: {fault}");
-            faults = faults.saturating_add(1);
-        }
-        if counts.push(end.count).is_err() {
-            return Err(out_of_memory(rt));
+            valid = false;
         }
     }
-    if faults > 0 {
-        return Err(Exit::Input);
+    if valid { Ok(()) } else { Err(Exit::Input) }
+}
+
+// How many operations the files have.
+fn counts_of(alloc: Global, ends: &[InputEnd]) -> Result<Vec<u64>, AllocError> {
+    let mut counts = Vec::with_capacity(alloc, ends.len())?;
+    for end in ends {
+        counts.push(end.count)?;
     }
-    none_is_missing(rt, names, &counts, report)
+    Ok(counts)
 }
 
 // Prints the report's line of the first operation that no file has, if there is one.
@@ -239,30 +315,54 @@ fn pick_all<R: Print + Eprint + AllocGlobal>(
     index: Option<&str>,
     report: &str,
 ) -> Result<(), Exit> {
-    let mut writer = StdStream::new(io::writer(rt));
     let mut counts = Vec::new(rt.alloc());
-    let mut producer = 0u32;
-    for path in files {
-        let reason = Reason::new();
-        let mut input = StdStream::new(open_noted(rt, host, path, &reason)?);
-        match pick(rt.alloc(), names, producer, &mut input, index, &mut writer) {
-            Ok(count) => {
-                if counts.push(count).is_err() {
-                    return Err(out_of_memory(rt));
-                }
-            }
-            Err(fault) => return Err(file_fault(rt, path, fault, &reason)),
-        }
-        producer = producer.saturating_add(1);
-    }
+    pick_each(rt, host, names, files, index, &mut counts)?;
     none_is_missing(rt, names, &counts, report)
 }
 
+// Extracts the operations from each file, and counts what each has.
+fn pick_each<R: Print + Eprint + AllocGlobal>(
+    rt: &R,
+    host: HostRuntime,
+    names: &[Named],
+    files: &[&str],
+    index: Option<&str>,
+    counts: &mut Vec<u64>,
+) -> Result<(), Exit> {
+    let mut producer = 0u32;
+    for path in files {
+        let count = pick_file(rt, host, names, producer, path, index)?;
+        if counts.push(count).is_err() {
+            return Err(out_of_memory(rt));
+        }
+        producer = producer.saturating_add(1);
+    }
+    Ok(())
+}
+
+// Extracts the operations from the file of a producer, and returns how many it has.
+fn pick_file<R: Print + Eprint + AllocGlobal>(
+    rt: &R,
+    host: HostRuntime,
+    names: &[Named],
+    producer: u32,
+    path: &str,
+    index: Option<&str>,
+) -> Result<u64, Exit> {
+    let reason = Reason::new();
+    let mut input = StdStream::new(open_noted(rt, host, path, &reason)?);
+    let mut writer = StdStream::new(io::writer(rt));
+    match pick(rt.alloc(), names, producer, &mut input, index, &mut writer) {
+        Ok(count) => Ok(count),
+        Err(fault) => Err(file_fault(rt, path, fault, reason.get().copied())),
+    }
+}
+
 // Prints the fault of a file. If that fails, the exit status is the same.
-fn file_fault<R: Eprint>(rt: &R, path: &str, fault: PickFault, reason: &Reason) -> Exit {
+fn file_fault<R: Eprint>(rt: &R, path: &str, fault: PickFault, reason: Option<ErrorKind>) -> Exit {
     match fault {
         PickFault::Input(fault) if fault.kind == LineKind::Read => {
-            failed(rt, path, "read failed", reason.get().copied())
+            failed(rt, path, "read failed", reason)
         }
         PickFault::Input(fault) => {
             let _ = eprintln!(rt; "{path}: {fault}");
@@ -277,13 +377,18 @@ fn file_fault<R: Eprint>(rt: &R, path: &str, fault: PickFault, reason: &Reason) 
 }
 
 // Prints what is wrong with the report.
-fn report_fault<R: Eprint>(rt: &R, path: &str, fault: ReportFault, reason: &Reason) -> Exit {
+fn report_fault<R: Eprint>(
+    rt: &R,
+    path: &str,
+    fault: ReportFault,
+    reason: Option<ErrorKind>,
+) -> Exit {
     match fault {
         ReportFault::BadLine { line } => {
             let _ = eprintln!(rt; "{path}: line {line}: BadLine");
             Exit::Input
         }
-        ReportFault::Read => failed(rt, path, "read failed", reason.get().copied()),
+        ReportFault::Read => failed(rt, path, "read failed", reason),
         ReportFault::Memory => out_of_memory(rt),
     }
 }

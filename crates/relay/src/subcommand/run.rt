@@ -1,7 +1,8 @@
 //! `relay run`.
+use crate::builder::CommandBuilder;
 use crate::options::{
-    DurationOption, FlagOption, GIVE_UP_AFTER, NO_COUNTER, NO_HOST, NumberOption, Retries, TO,
-    TextOption, counter_of, read_retries,
+    DurationOption, FlagOption, GIVE_UP_AFTER, NO_HOST, NumberOption, Retries, TO, TextOption,
+    read_counter, read_retries,
 };
 use crate::report::{out_of_memory, usage};
 use clap::{Arg, ArgAction, ArgMatches, Command};
@@ -96,12 +97,16 @@ that is a pipe ends with the operation that arrives next.
     stopped after N reports: --max-reports
     stopped: the index answered a whole request with STATUS before it had applied anything
 
+With --until FILE a run also takes no more input once FILE is there, even while it waits for a pipe; then it says
+`stopped: --until`, and its exit status is that of what was read. If no operation ends for --timeout after that, it is
+left as it is: `stopped: --until; not all was settled`, and the exit status is 3.
+
 While the index is down, each request that cannot be sent is an attempt, and so is each that is not answered
 within --timeout. Between the attempts of an operation its lane pauses for 1, 2, 4, 8, 16, 32 and 64
 ticks of 100 ms: 12.7 s in all with the default of 8 attempts, and 166 s with 32, at most 64 ticks each, plus
 the time that connecting takes. Then it is reported. With --give-up-after DURATION, in place of --attempts, an
 operation is sent again until so long has passed since it was first sent, and with --give-up-after never
-without end, while the inputs wait. With --patience each attempt keeps trying to connect for
+2097152 times, which takes 155 days or more, while the inputs wait. With --patience each attempt keeps trying to connect for
 that long before it fails, so an index that is back by then costs only the attempt of what was in
 flight when it went down.
 
@@ -128,7 +133,14 @@ The first, and the statuses 429, 502, 503 and 504, are tried again each second f
 
     relay run --to 127.0.0.1:9200 --epoch-from relay/epoch --index books ops.ndjson
 
-After a crash run the same files again, in the next epoch. A request of the old run that still arrives is
+With --state FILE the run keeps in FILE how far each file is settled, and its epoch: at the start, at most once a
+second, and at the end. However it ended, the same command goes on from there in the next epoch, and numbers operations
+and lines on. The files have to be the same, and may only have grown; otherwise nothing is sent, and the exit status is
+2. Only one run may have a state: a second one ends with status 3, and names the process that has it.
+
+    relay run --to 127.0.0.1:9200 --index books --state state --report report.ndjson ops.ndjson
+
+Otherwise, after a crash, run the same files again, in the next epoch. A request of the old run that still arrives is
 applied before the new writes of its document, or not at all. If the old process is still sending, its writes
 of a document are refused once the new run has written that document, and are applied elsewhere; the order of
 the writes is kept, but its count of operations already applied may be wrong.";
@@ -165,6 +177,20 @@ const SKIP_INVALID: TextOption = TextOption {
     name: "skip-invalid",
     value: "FILE",
     help: "Leave out invalid operations, and write their lines to this file, each after a line that says what is wrong; it has to be new or empty, and the run ends with status 5 if any were left out [default: none, so a file is read up to its first fault]",
+};
+
+// Where the state of the run is kept.
+const STATE: TextOption = TextOption {
+    name: "state",
+    value: "FILE",
+    help: "Keep in this file how far each regular file is settled, and go on from there if it has that already, in an epoch of its own, above its last one; it needs --report, to which it adds, and no other run may use it meanwhile [default: none, so each file is read from its start]",
+};
+
+// What ends a run.
+const UNTIL: TextOption = TextOption {
+    name: "until",
+    value: "FILE",
+    help: "Take no more input once this file is there, finish what was read, and end; a run that settles nothing for --timeout after that is left as it is, and ends with status 3 [default: none]",
 };
 
 // Whether these files may have lines already.
@@ -293,35 +319,17 @@ const WEEK: u64 = 604_800;
 // The options that are lengths of time, in the order of the help.
 const DURATIONS: &[DurationOption] = &[LINGER, TIMEOUT, PATIENCE];
 
-// Adds these options to the command.
-fn with_numbers<'a>(alloc: Global, command: Command<'a>) -> Result<Command<'a>, AllocError> {
-    let mut command = command;
-    for option in NUMBERS {
-        command = command.arg(option.arg(alloc))?;
-    }
-    for option in DURATIONS {
-        command = command.arg(option.arg(alloc))?;
-    }
-    let give_up = GIVE_UP_AFTER.arg(alloc).conflicts_with(ATTEMPTS.name)?;
-    command.arg(give_up)
-}
-
-// The options for what is saved and shown.
-fn with_outputs<'a>(alloc: Global, command: Command<'a>) -> Result<Command<'a>, AllocError> {
-    let append = APPEND.arg(alloc).requires_arg(REPORT.name)?;
-    let log = LOG.arg(alloc).default_value("errors");
-    let command = command.arg(REPORT.arg(alloc))?;
-    let command = command.arg(SKIP_INVALID.arg(alloc))?;
-    let command = command.arg(append)?;
-    let command = command.arg(MAX_REPORTS.arg(alloc))?;
-    let command = command.arg(log)?;
-    command.arg(PROGRESS.arg(alloc))
+// A state goes with a file for the reports, and counts the epochs and the lines itself.
+fn state_arg<'a>(alloc: Global) -> Result<Arg<'a>, AllocError> {
+    STATE
+        .arg(alloc)
+        .requires_arg(REPORT.name)?
+        .conflicts_with(SKIP_INVALID.name)?
+        .conflicts_with(COUNTER.name)
 }
 
 /// Its help and its options.
 pub fn command<'a>(alloc: Global, name: &'static str) -> Result<Command<'a>, AllocError> {
-    let to = TO.arg(alloc).required(true);
-    let counter = COUNTER.arg(alloc).conflicts_with(EPOCH.name)?;
     let files = Arg::new(alloc, FILES)
         .value_name("FILE")
         .action(ArgAction::Append)
@@ -330,13 +338,23 @@ pub fn command<'a>(alloc: Global, name: &'static str) -> Result<Command<'a>, All
         .help(
             "Files of operations, 1 to 16, each read by its own producer; `-`, at most once, is standard input",
         );
-    let command = Command::new(alloc, name)
-        .about(ABOUT)
-        .long_about(LONG_ABOUT)
-        .arg(to)?
-        .arg(INDEX.arg(alloc))?
-        .arg(counter)?;
-    with_outputs(alloc, with_numbers(alloc, command)?)?.arg(files)
+    CommandBuilder::new(alloc, name, ABOUT, LONG_ABOUT)
+        .required_text(&TO)
+        .text(&INDEX)
+        .try_arg(COUNTER.arg(alloc).conflicts_with(EPOCH.name))
+        .numbers(NUMBERS)
+        .durations(DURATIONS)
+        .try_arg(GIVE_UP_AFTER.arg(alloc).conflicts_with(ATTEMPTS.name))
+        .text(&REPORT)
+        .text(&SKIP_INVALID)
+        .try_arg(state_arg(alloc))
+        .text(&UNTIL)
+        .try_arg(APPEND.arg(alloc).requires_arg(REPORT.name))
+        .number(&MAX_REPORTS)
+        .arg(LOG.arg(alloc).default_value("errors"))
+        .flag(&PROGRESS)
+        .arg(files)
+        .build()
 }
 
 // The options that are lengths of time, each in its units.
@@ -366,24 +384,37 @@ fn retries_of<R: Eprint>(rt: &R, matches: &ArgMatches<'_>) -> Result<Retries, Ex
     }
 }
 
-// The files to read.
-fn files_of(alloc: Global, matches: &ArgMatches<'_>) -> Result<Vec<String>, AllocError> {
-    let mut files = Vec::new(alloc);
-    for file in matches.get_strs(FILES).unwrap_or(&[]) {
-        files.push(String::from_str(alloc, file)?)?;
-    }
-    Ok(files)
+// What is given by numbers, durations and the address.
+#[derive(Clone, Copy)]
+struct Given<'a> {
+    to: &'a str,
+    durations: Durations,
+    retries: Retries,
 }
 
-fn config_of(
-    matches: &ArgMatches<'_>,
-    producers: usize,
-    linger: u32,
-    retries: Retries,
-) -> RelayConfig {
+// Reads these. If something is wrong with them, prints so, and returns the exit status.
+fn given_by<'a, R: Eprint>(rt: &R, matches: &'a ArgMatches<'_>) -> Result<Given<'a>, Exit> {
+    let durations = durations_of(rt, matches)?;
+    let to = match read_address(TO.get(matches).unwrap_or("")) {
+        Ok(address) => address,
+        Err(fault) => return Err(usage(rt, address_fault(fault))),
+    };
+    Ok(Given {
+        to,
+        durations,
+        retries: retries_of(rt, matches)?,
+    })
+}
+
+// The paths of the files to read.
+fn paths_of<'a>(matches: &'a ArgMatches<'_>) -> &'a [&'a str] {
+    matches.get_strs(FILES).unwrap_or(&[])
+}
+
+fn config_of(matches: &ArgMatches<'_>, linger: u32, retries: Retries) -> RelayConfig {
     RelayConfig {
         lanes: LANES.get_u32(matches),
-        producers: u32::try_from(producers).unwrap_or(u32::MAX),
+        producers: u32::try_from(paths_of(matches).len()).unwrap_or(u32::MAX),
         capacity: CAPACITY.get_u32(matches),
         max_held: HELD.get_u32(matches),
         limits: Limits {
@@ -399,47 +430,50 @@ fn config_of(
     }
 }
 
-// Sets the options that are texts.
+// Adds a path to the files to read.
+fn add_file(alloc: Global, path: &str, options: &mut RunOptions) -> Result<(), AllocError> {
+    options.files.push(String::from_str(alloc, path)?)?;
+    Ok(())
+}
+
+// Sets the options that are texts, and the files to read.
 fn set_texts(
     alloc: Global,
     matches: &ArgMatches<'_>,
     to: &str,
     options: &mut RunOptions,
 ) -> Result<(), AllocError> {
+    for path in paths_of(matches) {
+        add_file(alloc, path, options)?;
+    }
     options.to = String::from_str(alloc, to)?;
     options.index = INDEX.own(alloc, matches)?;
     options.report = REPORT.own(alloc, matches)?;
     options.skip_invalid = SKIP_INVALID.own(alloc, matches)?;
+    options.state = STATE.own(alloc, matches)?;
+    options.until = UNTIL.own(alloc, matches)?;
     Ok(())
 }
 
-// The options as they were given, without the counter document and what is said meanwhile.
-fn options_of(
-    alloc: Global,
-    matches: &ArgMatches<'_>,
-    to: &str,
-    durations: &Durations,
-    retries: Retries,
-) -> Result<RunOptions, AllocError> {
-    let files = files_of(alloc, matches)?;
-    let config = config_of(matches, files.len(), durations.linger, retries);
-    let mut options = RunOptions {
-        files,
+// The options as they were given, without those that are texts, and without what is said meanwhile.
+fn options_of(alloc: Global, matches: &ArgMatches<'_>, given: Given<'_>) -> RunOptions {
+    RunOptions {
+        files: Vec::new(alloc),
         to: String::new(alloc),
         index: None,
-        config,
+        config: config_of(matches, given.durations.linger, given.retries),
         epoch_from: None,
-        timeout: durations.timeout,
-        patience: durations.patience,
+        timeout: given.durations.timeout,
+        patience: given.durations.patience,
         report: None,
         skip_invalid: None,
+        state: None,
+        until: None,
         append: APPEND.is_given(matches),
         max_reports: MAX_REPORTS.get_u32(matches),
         progress: PROGRESS.is_given(matches),
         log: Log::Errors,
-    };
-    set_texts(alloc, matches, to, &mut options)?;
-    Ok(options)
+    }
 }
 
 // What to say while a run goes on. `None`: the value of the option is none of the three.
@@ -477,23 +511,28 @@ fn fault_of(options: &RunOptions) -> Option<&'static str> {
         Some(NOT_APART.trim_end())
     } else if !options.leaves_apart() {
         Some(NOT_APART_LEFT_OUT.trim_end())
+    } else if !options.may_resume() {
+        Some(
+            "error: --state FILE has to be a file of its own: not '-', none of those that are read, and not that of --report",
+        )
     } else {
         None
     }
 }
 
-// Sets the counter document, if one was named, and what is said meanwhile. If something is wrong with
-// the options, prints so, and returns the exit status.
+// Sets the texts, the counter document, if one was named, and what is said meanwhile. If something is
+// wrong with the options, prints so, and returns the exit status.
 fn complete<R: Eprint + AllocGlobal>(
     rt: &R,
     matches: &ArgMatches<'_>,
+    to: &str,
     options: &mut RunOptions,
 ) -> Result<(), Exit> {
-    match counter_of(rt.alloc(), matches, &COUNTER) {
-        Ok(None) => {}
-        Ok(Some(Some(counter))) => options.epoch_from = Some(counter),
-        Ok(Some(None)) => return Err(usage(rt, NO_COUNTER)),
-        Err(_) => return Err(out_of_memory(rt)),
+    if set_texts(rt.alloc(), matches, to, options).is_err() {
+        return Err(out_of_memory(rt));
+    }
+    if let Some(name) = COUNTER.get(matches) {
+        options.epoch_from = Some(read_counter(rt, name)?);
     }
     match log_of(matches) {
         Some(log) => options.log = log,
@@ -510,25 +549,28 @@ pub fn execute<R>(rt: &R, host: HostRuntime, matches: &ArgMatches<'_>) -> Exit
 where
     R: Print + Eprint + AllocGlobal + Threads + Wait + Clock + Copy + Send + 'static,
 {
-    let durations = match durations_of(rt, matches) {
-        Ok(durations) => durations,
-        Err(exit) => return exit,
-    };
-    let to = match read_address(TO.get(matches).unwrap_or("")) {
-        Ok(address) => address,
-        Err(fault) => return usage(rt, address_fault(fault)),
-    };
-    let retries = match retries_of(rt, matches) {
-        Ok(retries) => retries,
-        Err(exit) => return exit,
-    };
-    let Ok(mut options) = options_of(rt.alloc(), matches, to, &durations, retries) else {
-        return out_of_memory(rt);
-    };
-    if let Err(exit) = complete(rt, matches, &mut options) {
-        return exit;
+    match given_by(rt, matches) {
+        Ok(given) => run_given(rt, host, matches, given),
+        Err(exit) => exit,
     }
+}
+
+fn run_given<R>(rt: &R, host: HostRuntime, matches: &ArgMatches<'_>, given: Given<'_>) -> Exit
+where
+    R: Print + Eprint + AllocGlobal + Threads + Wait + Clock + Copy + Send + 'static,
+{
+    let mut options = options_of(rt.alloc(), matches, given);
+    match complete(rt, matches, given.to, &mut options) {
+        Ok(()) => run_by(rt, host, &options),
+        Err(exit) => exit,
+    }
+}
+
+fn run_by<R>(rt: &R, host: HostRuntime, options: &RunOptions) -> Exit
+where
+    R: Print + Eprint + AllocGlobal + Threads + Wait + Clock + Copy + Send + 'static,
+{
     let mut out = StdStream::new(io::writer(rt));
     let mut err = StdStream::new(host.stderr());
-    run_files(*rt, host, &options, &mut out, &mut err)
+    run_files(*rt, host, options, &mut out, &mut err)
 }

@@ -1,13 +1,14 @@
 //! `relay serve`.
+use crate::builder::CommandBuilder;
 use crate::options::{
-    DurationOption, GIVE_UP_AFTER, NO_COUNTER, NO_HOST, NumberOption, Retries, TO, TextOption,
-    counter_of, read_retries,
+    DurationOption, GIVE_UP_AFTER, NO_HOST, NumberOption, Retries, TO, TextOption, read_counter,
+    read_retries,
 };
 use crate::report::{out_of_memory, usage};
 use crate::subcommand::run::address_fault;
 use clap::builder::ValueParser;
-use clap::{ArgMatches, Command};
-use relay_action::{DocKey, StdStream};
+use clap::{Arg, ArgMatches, Command};
+use relay_action::StdStream;
 use relay_batch::Limits;
 use relay_core::config::{
     ATTEMPT_LIMIT, BYTES_LEAST, BYTES_LIMIT, COUNT_LIMIT, DEAL_LIMIT, EPOCH_LIMIT, LANE_LIMIT,
@@ -182,40 +183,38 @@ const IDLE: DurationOption = DurationOption {
 
 const DURATIONS: &[DurationOption] = &[WITHIN, TIMEOUT, PATIENCE, IDLE];
 
-// The options for the epoch.
-fn with_epochs<'a>(alloc: Global, command: Command<'a>) -> Result<Command<'a>, AllocError> {
-    let file = EPOCH_FILE.arg(alloc).conflicts_with(COUNTER.name)?;
-    let epoch = EPOCH
+// The option that gives the epoch.
+fn epoch_arg<'a>(alloc: Global) -> Result<Arg<'a>, AllocError> {
+    EPOCH
         .arg(alloc)
         .value_parser(ValueParser::unsigned(0, EPOCH_LIMIT as u64))
         .conflicts_with(COUNTER.name)?
-        .conflicts_with(EPOCH_FILE.name)?;
-    command.arg(COUNTER.arg(alloc))?.arg(file)?.arg(epoch)
+        .conflicts_with(EPOCH_FILE.name)
+}
+
+// The option for the number of attempts.
+fn attempts_arg<'a>(alloc: Global) -> Result<Arg<'a>, AllocError> {
+    ATTEMPTS
+        .arg(alloc)
+        .value_parser(ValueParser::unsigned(1, ATTEMPT_LIMIT as u64))
+        .conflicts_with(GIVE_UP_AFTER.name)
 }
 
 /// Its help and its options.
 pub fn command<'a>(alloc: Global, name: &'static str) -> Result<Command<'a>, AllocError> {
-    let face = FACE.arg(alloc).default_value("compatible");
-    let mut command = Command::new(alloc, name)
-        .about(ABOUT)
-        .long_about(LONG_ABOUT)
-        .arg(LISTEN.arg(alloc).required(true))?
-        .arg(TO.arg(alloc).required(true))?
-        .arg(INDEX.arg(alloc))?
-        .arg(face)?;
-    command = with_epochs(alloc, command)?;
-    for option in NUMBERS {
-        command = command.arg(option.arg(alloc))?;
-    }
-    for option in DURATIONS {
-        command = command.arg(option.arg(alloc))?;
-    }
-    let attempts = ATTEMPTS
-        .arg(alloc)
-        .value_parser(ValueParser::unsigned(1, ATTEMPT_LIMIT as u64))
-        .conflicts_with(GIVE_UP_AFTER.name)?;
-    let give_up = GIVE_UP_AFTER.arg(alloc).default_value(GIVE_UP);
-    command.arg(give_up)?.arg(attempts)
+    CommandBuilder::new(alloc, name, ABOUT, LONG_ABOUT)
+        .required_text(&LISTEN)
+        .required_text(&TO)
+        .text(&INDEX)
+        .arg(FACE.arg(alloc).default_value("compatible"))
+        .text(&COUNTER)
+        .try_arg(EPOCH_FILE.arg(alloc).conflicts_with(COUNTER.name))
+        .try_arg(epoch_arg(alloc))
+        .numbers(NUMBERS)
+        .durations(DURATIONS)
+        .arg(GIVE_UP_AFTER.arg(alloc).default_value(GIVE_UP))
+        .try_arg(attempts_arg(alloc))
+        .build()
 }
 
 // The options that are lengths of time, each in its units.
@@ -241,10 +240,19 @@ const NO_EPOCH: &str =
 
 const NO_FACE: &str = "error: --face FACE has to be `compatible` or `opensearch`";
 
-fn counter<R: Eprint>(rt: &R, counter: Option<DocKey>) -> Result<EpochSource, Exit> {
-    match counter {
-        Some(counter) => Ok(EpochSource::Counter(counter)),
-        None => Err(usage(rt, NO_COUNTER)),
+// The epoch comes from this document.
+fn epoch_from<R: Eprint + AllocGlobal>(rt: &R, name: &str) -> Result<EpochSource, Exit> {
+    match read_counter(rt, name) {
+        Ok(counter) => Ok(EpochSource::Counter(counter)),
+        Err(exit) => Err(exit),
+    }
+}
+
+// The epoch comes from this file.
+fn epoch_file<R: Eprint + AllocGlobal>(rt: &R, path: &str) -> Result<EpochSource, Exit> {
+    match String::from_str(rt.alloc(), path) {
+        Ok(path) => Ok(EpochSource::File(path)),
+        Err(_) => Err(out_of_memory(rt)),
     }
 }
 
@@ -253,15 +261,11 @@ fn epoch_of<R: Eprint + AllocGlobal>(
     rt: &R,
     matches: &ArgMatches<'_>,
 ) -> Result<EpochSource, Exit> {
-    match counter_of(rt.alloc(), matches, &COUNTER) {
-        Ok(Some(named)) => return counter(rt, named),
-        Ok(None) => {}
-        Err(_) => return Err(out_of_memory(rt)),
+    if let Some(name) = COUNTER.get(matches) {
+        return epoch_from(rt, name);
     }
-    match EPOCH_FILE.own(rt.alloc(), matches) {
-        Ok(Some(path)) => return Ok(EpochSource::File(path)),
-        Ok(None) => {}
-        Err(_) => return Err(out_of_memory(rt)),
+    if let Some(path) = EPOCH_FILE.get(matches) {
+        return epoch_file(rt, path);
     }
     match matches.get_one::<u32>(EPOCH.name) {
         Some(epoch) => Ok(EpochSource::Given(epoch)),
@@ -299,6 +303,33 @@ fn config_of(matches: &ArgMatches<'_>, retries: Retries) -> RelayConfig {
     }
 }
 
+// What is given by numbers, durations, words and the address.
+#[derive(Clone, Copy)]
+struct Given<'a> {
+    to: &'a str,
+    durations: Durations,
+    face: Face,
+    retries: Retries,
+}
+
+// Reads these. If something is wrong with them, prints so, and returns the exit status.
+fn given_by<'a, R: Eprint>(rt: &R, matches: &'a ArgMatches<'_>) -> Result<Given<'a>, Exit> {
+    let durations = durations_of(rt, matches)?;
+    let to = match read_address(TO.get(matches).unwrap_or("")) {
+        Ok(address) => address,
+        Err(fault) => return Err(usage(rt, address_fault(fault))),
+    };
+    let Some(face) = Face::named(FACE.get(matches).unwrap_or("")) else {
+        return Err(usage(rt, NO_FACE));
+    };
+    Ok(Given {
+        to,
+        durations,
+        face,
+        retries: retries_of(rt, matches)?,
+    })
+}
+
 // Sets the options that are texts.
 fn set_texts(
     alloc: Global,
@@ -316,22 +347,20 @@ fn set_texts(
 fn options_of(
     alloc: Global,
     matches: &ArgMatches<'_>,
-    face: Face,
+    given: Given<'_>,
     epoch: EpochSource,
-    durations: &Durations,
-    retries: Retries,
 ) -> ServeOptions {
     ServeOptions {
         listen: String::new(alloc),
         to: String::new(alloc),
         index: None,
-        face,
-        config: config_of(matches, retries),
+        face: given.face,
+        config: config_of(matches, given.retries),
         epoch,
-        timeout: durations.timeout,
-        patience: durations.patience,
-        within: u64::from(durations.within),
-        idle: u64::from(durations.idle),
+        timeout: given.durations.timeout,
+        patience: given.durations.patience,
+        within: u64::from(given.durations.within),
+        idle: u64::from(given.durations.idle),
     }
 }
 
@@ -340,33 +369,47 @@ pub fn execute<R>(rt: &R, host: HostRuntime, matches: &ArgMatches<'_>) -> Exit
 where
     R: Print + Eprint + AllocGlobal + Threads + Wait + Clock + Copy + Send + 'static,
 {
-    let durations = match durations_of(rt, matches) {
-        Ok(durations) => durations,
-        Err(exit) => return exit,
-    };
-    let to = match read_address(TO.get(matches).unwrap_or("")) {
-        Ok(address) => address,
-        Err(fault) => return usage(rt, address_fault(fault)),
-    };
-    let Some(face) = Face::named(FACE.get(matches).unwrap_or("")) else {
-        return usage(rt, NO_FACE);
-    };
-    let retries = match retries_of(rt, matches) {
-        Ok(retries) => retries,
-        Err(exit) => return exit,
-    };
-    let epoch = match epoch_of(rt, matches) {
-        Ok(epoch) => epoch,
-        Err(exit) => return exit,
-    };
-    let mut options = options_of(rt.alloc(), matches, face, epoch, &durations, retries);
-    if set_texts(rt.alloc(), matches, to, &mut options).is_err() {
-        return out_of_memory(rt);
+    match given_by(rt, matches) {
+        Ok(given) => serve_given(rt, host, matches, given),
+        Err(exit) => exit,
     }
+}
+
+fn serve_given<R>(rt: &R, host: HostRuntime, matches: &ArgMatches<'_>, given: Given<'_>) -> Exit
+where
+    R: Print + Eprint + AllocGlobal + Threads + Wait + Clock + Copy + Send + 'static,
+{
+    match epoch_of(rt, matches) {
+        Ok(epoch) => serve_in(rt, host, matches, given, epoch),
+        Err(exit) => exit,
+    }
+}
+
+fn serve_in<R>(
+    rt: &R,
+    host: HostRuntime,
+    matches: &ArgMatches<'_>,
+    given: Given<'_>,
+    epoch: EpochSource,
+) -> Exit
+where
+    R: Print + Eprint + AllocGlobal + Threads + Wait + Clock + Copy + Send + 'static,
+{
+    let mut options = options_of(rt.alloc(), matches, given, epoch);
+    match set_texts(rt.alloc(), matches, given.to, &mut options) {
+        Ok(()) => serve_by(rt, host, &options),
+        Err(_) => out_of_memory(rt),
+    }
+}
+
+fn serve_by<R>(rt: &R, host: HostRuntime, options: &ServeOptions) -> Exit
+where
+    R: Print + Eprint + AllocGlobal + Threads + Wait + Clock + Copy + Send + 'static,
+{
     if !options.is_valid() {
         return usage(rt, NO_HOST);
     }
     let mut out = StdStream::new(io::writer(rt));
     let mut err = StdStream::new(host.stderr());
-    serve(*rt, host, &options, &mut out, &mut err)
+    serve(*rt, host, options, &mut out, &mut err)
 }

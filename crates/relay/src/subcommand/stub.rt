@@ -1,10 +1,12 @@
 //! `relay stub`.
+use crate::builder::CommandBuilder;
 use crate::options::TextOption;
 use crate::refusals::script_of;
 use crate::stand_in::{REASONS, index_of};
 use clap::builder::ValueParser;
 use clap::{ArgMatches, Command};
 use relay_action::StdStream;
+use relay_index::Script;
 use relay_net::TcpListen;
 use relay_stub::command::{StubFault, exit_of_stub, stub};
 use relay_words::Exit;
@@ -65,55 +67,76 @@ const MAX: TextOption = TextOption {
 
 /// Its help and its options.
 pub fn command<'a>(alloc: Global, name: &'static str) -> Result<Command<'a>, AllocError> {
-    let requests = REQUESTS
-        .arg(alloc)
-        .required(true)
-        .value_parser(ValueParser::unsigned(0, u64::MAX));
-    let max = MAX
-        .arg(alloc)
-        .value_parser(ValueParser::unsigned(0, u64::MAX));
-    Command::new(alloc, name)
-        .about(ABOUT)
-        .long_about(LONG_ABOUT)
-        .arg(LISTEN.arg(alloc).required(true))?
-        .arg(requests)?
-        .arg(REFUSE.arg(alloc))?
-        .arg(REASONS.arg(alloc))?
-        .arg(max)
+    let any = ValueParser::unsigned(0, u64::MAX);
+    CommandBuilder::new(alloc, name, ABOUT, LONG_ABOUT)
+        .required_text(&LISTEN)
+        .arg(REQUESTS.arg(alloc).required(true).value_parser(any))
+        .text(&REFUSE)
+        .flag(&REASONS)
+        .arg(MAX.arg(alloc).value_parser(any))
+        .build()
 }
 
 /// Runs it over sockets and standard output.
 pub fn execute<R: Print + Eprint + Net + AllocGlobal>(rt: &R, matches: &ArgMatches<'_>) -> Exit {
-    let mut script = match script_of(rt, matches, &REFUSE) {
-        Ok(script) => script,
-        Err(exit) => return exit,
-    };
+    match script_of(rt, matches, &REFUSE) {
+        Ok(script) => listen(rt, matches, script),
+        Err(exit) => exit,
+    }
+}
+
+// Listens, and serves by this script.
+fn listen<R: Print + Eprint + Net + AllocGlobal>(
+    rt: &R,
+    matches: &ArgMatches<'_>,
+    script: Script,
+) -> Exit {
+    match TcpListen::bind(rt, LISTEN.get(matches).unwrap_or("")) {
+        Ok(listener) => serve(rt, matches, limited(matches, script), listener),
+        Err(_) => {
+            let _ = rt.eprintln("listen failed");
+            Exit::Device
+        }
+    }
+}
+
+// The script with the maximum size of a body, if one was given.
+fn limited(matches: &ArgMatches<'_>, script: Script) -> Script {
+    let mut script = script;
     if let Some(max) = matches.get_one::<u64>(MAX.name) {
         script.too_large(max);
     }
-    let address = LISTEN.get(matches).unwrap_or("");
+    script
+}
+
+fn serve<R: Print + Eprint + Net + AllocGlobal>(
+    rt: &R,
+    matches: &ArgMatches<'_>,
+    script: Script,
+    listener: TcpListen<R>,
+) -> Exit {
     let requests = matches.get_one::<u64>(REQUESTS.name).unwrap_or(0);
-    let Ok(mut listener) = TcpListen::bind(rt, address) else {
-        let _ = rt.eprintln("listen failed");
-        return Exit::Device;
-    };
+    let mut listener = listener;
     let mut writer = StdStream::new(io::writer(rt));
     let index = index_of(rt.alloc(), matches);
-    match stub(
+    let served = stub(
         rt.alloc(),
         &mut listener,
         requests,
         index,
         script,
         &mut writer,
-    ) {
-        Ok(()) => Exit::Done,
-        Err(fault) => report(rt, fault),
-    }
+    );
+    exit_after(rt, served)
 }
 
-// Prints the fault. If that fails, the exit status is the same.
-fn report<R: Eprint>(rt: &R, fault: StubFault) -> Exit {
-    let _ = rt.eprintln(fault);
-    exit_of_stub(fault)
+// Prints the fault, if there is one. If that fails, the exit status is the same.
+fn exit_after<R: Eprint>(rt: &R, served: Result<(), StubFault>) -> Exit {
+    match served {
+        Ok(()) => Exit::Done,
+        Err(fault) => {
+            let _ = rt.eprintln(fault);
+            exit_of_stub(fault)
+        }
+    }
 }

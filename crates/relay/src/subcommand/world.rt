@@ -1,7 +1,9 @@
 //! `relay world`.
+use crate::builder::CommandBuilder;
 use crate::stand_in::{REASONS, WRITES, served_index};
 use clap::{ArgMatches, Command};
 use relay_action::StdStream;
+use relay_index::Index;
 use relay_scenario::exit::exit_of_script;
 use relay_scenario::script::{ScriptFault, world_script};
 use relay_words::Exit;
@@ -78,11 +80,10 @@ memory runs out.";
 
 /// Its help and its options.
 pub fn command<'a>(alloc: Global, name: &'static str) -> Result<Command<'a>, AllocError> {
-    Command::new(alloc, name)
-        .about(ABOUT)
-        .long_about(LONG_ABOUT)
-        .arg(REASONS.arg(alloc))?
-        .arg(WRITES.arg(alloc))
+    CommandBuilder::new(alloc, name, ABOUT, LONG_ABOUT)
+        .flag(&REASONS)
+        .text(&WRITES)
+        .build()
 }
 
 /// Runs it over standard input and output.
@@ -91,20 +92,27 @@ pub fn execute<R: Input + Print + Eprint + AllocGlobal>(
     host: HostRuntime,
     matches: &ArgMatches<'_>,
 ) -> Exit {
-    let index = match served_index(rt, host, matches) {
-        Ok(index) => index,
-        Err(exit) => return exit,
-    };
-    let mut reader = StdStream::new(rt.reader());
-    let mut writer = StdStream::new(io::writer(rt));
-    match world_script(rt.alloc(), &mut reader, &mut writer, index) {
-        Ok(()) => Exit::Done,
-        Err(fault) => report(rt, fault),
+    match served_index(rt, host, matches) {
+        Ok(index) => play(rt, index),
+        Err(exit) => exit,
     }
 }
 
-// Prints the fault. If that fails, the exit status is the same.
-fn report<R: Eprint>(rt: &R, fault: ScriptFault) -> Exit {
-    let _ = rt.eprintln(fault);
-    exit_of_script(fault)
+// Plays the script on a world over this index.
+fn play<R: Input + Print + Eprint + AllocGlobal>(rt: &R, index: Index) -> Exit {
+    let mut reader = StdStream::new(rt.reader());
+    let mut writer = StdStream::new(io::writer(rt));
+    let played = world_script(rt.alloc(), &mut reader, &mut writer, index);
+    exit_after(rt, played)
+}
+
+// Prints the fault, if there is one. If that fails, the exit status is the same.
+fn exit_after<R: Eprint>(rt: &R, played: Result<(), ScriptFault>) -> Exit {
+    match played {
+        Ok(()) => Exit::Done,
+        Err(fault) => {
+            let _ = rt.eprintln(fault);
+            exit_of_script(fault)
+        }
+    }
 }

@@ -4,4 +4,4 @@ use Rattle.relay_run.proofs.opening.make_readers.Given as goal
 
 -- those that are there, and then those that are left
 abbrev pub invariant-loop-opened : goal.invariant-loop-opened
-invariant-loop-opened l = vec_len l.readers + length (into_iter_items l.opened-iterator) ≡ vec_len l.fn.sources
+invariant-loop-opened g l = vec_len l.readers + length (into_iter_items l.opened-iterator) ≡ vec_len l.fn.sources

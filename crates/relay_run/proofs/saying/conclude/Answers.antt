@@ -17,7 +17,7 @@ returns g c =
     let text = c.deref-2.ensures.value ∙ c.in_ok-text.ensures.text ∙ ap (λ s. faults_text files opened s (map (λ v. v.items) c.args.beneath.now)) c.deref.ensures.value in
     let first = subst (λ (t : List ℕ). IsSaid t old mid) text (is_said _ old mid c.say.result c.say.ensures.all c.say.ensures.failed) in
     let ends = c.in_ok-text.ensures.exit ∙ ap (λ s. exit_of_files exit.Done opened s) c.deref.ensures.value in
-    concludes_fault _ _ c.in_ok-text.exit c.args.ran.end c.in-Err.fault _ _ _ old mid _ _ c.in-Err.is first ends refl c.in_ok-exit-in-Err.ensures.said c.in_ok-exit-in-Err.ensures.exit c.new.ensures.items
+    concludes_fault _ _ _ c.in_ok-text.exit c.args.ran.end c.in-Err.fault _ _ _ old mid _ _ c.in-Err.is first ends refl c.in_ok-exit-in-Err.ensures.said c.in_ok-exit-in-Err.ensures.exit c.new.ensures.items
 
 pub returns-in-Ok : goal.returns-in-Ok
 returns-in-Ok g c =
@@ -28,4 +28,4 @@ returns-in-Ok g c =
     let text = c.deref-2.ensures.value ∙ c.in_ok-text.ensures.text ∙ ap (λ s. faults_text files opened s (map (λ v. v.items) c.args.beneath.now)) c.deref.ensures.value in
     let first = subst (λ (t : List ℕ). IsSaid t old mid) text (is_said _ old mid c.say.result c.say.ensures.all c.say.ensures.failed) in
     let ends = c.in_ok-text.ensures.exit ∙ ap (λ s. exit_of_files exit.Done opened s) c.deref.ensures.value in
-    concludes_summary (λ (v : Vec Report _). v.items) _ _ c.in_ok-text.exit c.args.ran.end c.in-Ok.summary _ _ old mid _ c.say_summary.result c.in-Ok.is first ends c.say_summary.ensures
+    concludes_summary (λ (v : Vec Report _). v.items) _ _ _ c.in_ok-text.exit c.args.ran.end c.in-Ok.summary _ _ old mid _ c.say_summary.result c.in-Ok.is first ends c.say_summary.ensures

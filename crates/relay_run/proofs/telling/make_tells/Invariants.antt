@@ -1,11 +1,12 @@
 use Rattle.std.proofs.Common.{◌≡◌, ◌+◌, vec_len}
 use Rattle.std.specs.Vec.Iter.{into_iter_items, into_iter_len}
-use Rattle.relay_run.specs.Saving.{AreNew, AreUnwritten}
+use Rattle.relay_run.specs.Saving.{AreNew, AllGoOnFrom, AreUnwritten}
 use Rattle.relay_run.proofs.telling.make_tells.Given as goal
 
 abbrev pub invariant-loop-file : goal.invariant-loop-file
 invariant-loop-file g l = record {
   count : vec_len l.tells + into_iter_len l.file-iterator ≡ vec_len l.fn.files;
   new : AreNew l.tells.items;
+  before : AllGoOnFrom l.fn.numbering.before l.tells.items;
   left : AreUnwritten g.P.ByteStream.written g.P.ByteStream.failed (into_iter_items l.file-iterator);
 }

@@ -1,6 +1,6 @@
 use Rattle.std.proofs.Common.{◌≡◌, ◌+◌, ◌++◌, length, map, vec_capacity, vec_len}
 use Rattle.std.specs.Vec.Iter.{into_iter_items}
-use Rattle.relay_serve.specs.Heard.{end_in}
+use Rattle.relay_serve.specs.Batches.{end_in}
 use Rattle.relay_serve.proofs.batch.add_ends.Given as goal
 
 -- there is a place for each that is left

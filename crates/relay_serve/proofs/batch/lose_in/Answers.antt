@@ -1,12 +1,18 @@
-use Rattle.std.proofs.Common.{◌+◌, arith}
-use Rattle.relay_serve.proofs.Noting.{noted_set, noted_get}
+use Rattle.std.proofs.Common.{get_or, set, length, ap, ◌∙◌, arith}
+use Rattle.relay_serve.specs.Batches.{lost}
+use Rattle.relay_serve.proofs.Noting.{lost_more, lost_length, lost_all}
 use Rattle.relay_serve.proofs.batch.lose_in.Goals as goal
 
 pub items-preserved : goal.items-preserved
-items-preserved c = λ heard number says h.
+items-preserved c =
+    let lane = c.args.lane in
     let old = c.item-item.result in
     let place = c.items.item-index in
-    let k = c.items.invariant heard number says h in
-    let at = noted_get heard number place c.items.item-items old k (omega (arith, c.items-test.true)) in
-    noted_set heard number place c.items.item-items c.lose_one.new.item
-    (c.lose_one.ensures heard (number + place) says at) k
+    let i = c.items.invariant in
+    let len = ap length i ∙ lost_length lane place c.args.items.now in
+    ap (λ p. set c.items.item-items place p) c.lose_one.ensures
+    ∙ ap (λ ps. set ps place (lost lane (get_or ps place old))) i
+    ∙ lost_more lane place c.args.items.now old (omega (arith, c.items-test.true, len))
+
+pub returns : goal.returns
+returns c = λ first. c.items.invariant ∙ lost_all c.args.lane c.items.item-index first c.args.items.now (omega (arith, c.items-test.false))

@@ -1,5 +1,6 @@
 use Rattle.relay_serve.specs.Batches.{KeepsPlaces}
-use Rattle.relay_serve.specs.Settling.{Stays, Hears}
+use Rattle.relay_serve.specs.Putting.{Hears}
+use Rattle.relay_serve.specs.Settling.{Stays}
 use Rattle.relay_serve.proofs.settler.Settler.hear_all.Given as goal
 
 abbrev pub invariant-notices : goal.invariant-notices

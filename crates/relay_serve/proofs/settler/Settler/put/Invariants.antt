@@ -1,6 +1,7 @@
 use Rattle.std.proofs.Common.{◌≡◌}
 use Rattle.relay_serve.specs.Batches.{KeepsPlaces}
-use Rattle.relay_serve.specs.Settling.{Stays, Hears}
+use Rattle.relay_serve.specs.Putting.{Hears}
+use Rattle.relay_serve.specs.Settling.{Stays}
 use Rattle.relay_serve.proofs.settler.Settler.put.Given as goal
 
 abbrev pub invariant-tries : goal.invariant-tries

@@ -1,0 +1,12 @@
+pub mod Trails
+pub mod Steps
+pub mod States
+pub mod Texts
+pub mod Values
+pub mod Writing
+pub mod Finding
+pub mod Reading
+pub mod Inputs
+pub mod Lines
+pub mod Courses
+pub mod Ending

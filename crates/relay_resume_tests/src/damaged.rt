@@ -1,0 +1,126 @@
+//! Texts that are not those of a state.
+use crate::desk::{AFTER, BEFORE, joined};
+use relay_resume::{StateFault, read_state};
+
+// Each is damaged in one way.
+const TEXTS: &[&[u8]] = &[
+    // Nothing, cut off, or no line feed at the end.
+    b"",
+    b"\n",
+    b"{\"epoch\":7,\"inputs\":[\n",
+    b"{\"epoch\":7,\"inputs\":[]}",
+    // More after it.
+    b"{\"epoch\":7,\"inputs\":[]}\n\n",
+    b"{\"epoch\":7,\"inputs\":[]} {}\n",
+    b"{\"epoch\":7,\"inputs\":[]}\n{\"epoch\":7,\"inputs\":[]}\n",
+    // Another value.
+    b"[]\n",
+    b"7\n",
+    // A member is missing, twice, of another type, out of range, or unknown.
+    b"{\"epoch\":7}\n",
+    b"{\"inputs\":[]}\n",
+    b"{\"epoch\":7,\"epoch\":7,\"inputs\":[]}\n",
+    b"{\"epoch\":7,\"inputs\":[],\"inputs\":[]}\n",
+    b"{\"epoch\":\"7\",\"inputs\":[]}\n",
+    b"{\"epoch\":null,\"inputs\":[]}\n",
+    b"{\"epoch\":7,\"inputs\":{}}\n",
+    b"{\"epoch\":7,\"inputs\":[7]}\n",
+    b"{\"epoch\":7,\"inputs\":[{}]}\n",
+    b"{\"epoch\":4194304,\"inputs\":[]}\n",
+    b"{\"epoch\":-1,\"inputs\":[]}\n",
+    b"{\"epoch\":7.0,\"inputs\":[]}\n",
+    b"{\"epoch\":7,\"inputs\":[],\"more\":0}\n",
+    // The same value, written in another way.
+    b"{\"inputs\":[],\"epoch\":7}\n",
+    b"{\"epoch\": 7,\"inputs\":[]}\n",
+    b"{\"epoch\":07,\"inputs\":[]}\n",
+    b" {\"epoch\":7,\"inputs\":[]}\n",
+    b"{\"epo\\u0063h\":7,\"inputs\":[]}\n",
+    b"{\"epoch\":7,\"inputs\":[]}\r\n",
+    b"\xef\xbb\xbf{\"epoch\":7,\"inputs\":[]}\n",
+];
+
+#[test]
+fn each_text(rt: HostRuntime) {
+    for text in TEXTS {
+        assert!(rt; read_state(rt.alloc(), text).is_err_and(|it| it == StateFault::Form));
+    }
+}
+
+// Strings that are not written for a path.
+const STRINGS: &[&[u8]] = &[
+    b"\"\"",
+    b"7",
+    b"\"\xff\"",
+    b"\"\\/\"",
+    b"\"\\u000a\"",
+    b"\"\\ud800\"",
+    b"\"p\" ",
+];
+
+#[test]
+fn each_string(rt: HostRuntime) {
+    for string in STRINGS {
+        let Some(text) = joined(rt.alloc(), &[BEFORE, string, AFTER]) else {
+            assert!(rt; false);
+            return;
+        };
+        assert!(rt; read_state(rt.alloc(), &text).is_err_and(|it| it == StateFault::Form));
+    }
+}
+
+// What may follow the path: whole, and damaged in one way.
+const ENDS: &[(&[u8], bool)] = &[
+    (AFTER, true),
+    (
+        b",\"device\":2049,\"inode\":131,\"checked\":1025,\"digest\":\"000102030405060708090a0b0c0d0e0f101112131415161718191a1b1c1d1e1f\",\"offset\":260,\"line\":9,\"count\":5}]}\n",
+        false,
+    ),
+    (
+        b",\"device\":18446744073709551616,\"inode\":131,\"checked\":4,\"digest\":\"000102030405060708090a0b0c0d0e0f101112131415161718191a1b1c1d1e1f\",\"offset\":260,\"line\":9,\"count\":5}]}\n",
+        false,
+    ),
+    (
+        b",\"device\":2049,\"inode\":131,\"checked\":4,\"digest\":\"000102030405060708090A0b0c0d0e0f101112131415161718191a1b1c1d1e1f\",\"offset\":260,\"line\":9,\"count\":5}]}\n",
+        false,
+    ),
+    (
+        b",\"device\":2049,\"inode\":131,\"checked\":4,\"digest\":\"000102030405060708090a0b0c0d0e0f101112131415161718191a1b1c1d1e\",\"offset\":260,\"line\":9,\"count\":5}]}\n",
+        false,
+    ),
+    (
+        b",\"device\":2049,\"inode\":131,\"checked\":4,\"digest\":\"000102030405060708090a0b0c0d0e0f101112131415161718191a1b1c1d1e1g\",\"offset\":260,\"line\":9,\"count\":5}]}\n",
+        false,
+    ),
+    (
+        b",\"device\":2049,\"inode\":131,\"checked\":4,\"offset\":260,\"line\":9,\"count\":5}]}\n",
+        false,
+    ),
+    (
+        b",\"device\":2049,\"inode\":131,\"checked\":4,\"digest\":\"000102030405060708090a0b0c0d0e0f101112131415161718191a1b1c1d1e1f\",\"offset\":260,\"line\":9}]}\n",
+        false,
+    ),
+    (
+        b",\"device\":2049,\"inode\":131,\"checked\":4,\"digest\":\"000102030405060708090a0b0c0d0e0f101112131415161718191a1b1c1d1e1f\",\"offset\":260,\"line\":9,\"count\":5,\"count\":5}]}\n",
+        false,
+    ),
+    (
+        b",\"device\":2049,\"inode\":131,\"checked\":4,\"digest\":\"000102030405060708090a0b0c0d0e0f101112131415161718191a1b1c1d1e1f\",\"offset\":260,\"line\":9,\"count\":5,\"x\":5}]}\n",
+        false,
+    ),
+    (
+        b",\"device\":2049,\"inode\":131,\"checked\":4,\"digest\":\"000102030405060708090a0b0c0d0e0f101112131415161718191a1b1c1d1e1f\",\"offset\":260,\"line\":9,\"count\":5},]}\n",
+        false,
+    ),
+];
+
+#[test]
+fn each_end(rt: HostRuntime) {
+    for (end, whole) in ENDS {
+        let Some(text) = joined(rt.alloc(), &[BEFORE, b"\"p\"", end]) else {
+            assert!(rt; false);
+            return;
+        };
+        assert!(rt; read_state(rt.alloc(), &text).is_ok() == *whole);
+    }
+}

@@ -1,0 +1,175 @@
+//! The file in which a run keeps its state.
+use relay_action::Text;
+use relay_resume::{State, StateFault, read_state, write_state};
+use relay_words::{add_number, number_of};
+use std::alloc::{AllocError, Global};
+use std::fs::{File, OpenOptions, TryLockError};
+use std::io::{ErrorKind, Read, Write};
+use std::{fs, process};
+
+/// Why the state of a run cannot be used. Nothing was sent.
+#[derive(Clone, Copy, Debug, PartialEq, Eq)]
+pub(crate) enum StateFileFault {
+    /// It, or a file beside it, could not be opened, read, written, synchronized or renamed, for this
+    /// reason.
+    Device(ErrorKind),
+    /// Another run has it, in this process, if that is known.
+    Locked(Option<u64>),
+    /// What it holds is no state.
+    Form,
+    /// It holds the last epoch.
+    Spent,
+    /// An allocation failed.
+    Memory,
+}
+
+impl From<AllocError> for StateFileFault {
+    fn from(_error: AllocError) -> StateFileFault {
+        StateFileFault::Memory
+    }
+}
+
+/// The file of a state. No other run has it until this is dropped, or the process ends.
+#[derive(Drop)]
+pub(crate) struct StateFile {
+    host: HostRuntime,
+    path: String,
+    // Where a new state is written before it takes the place of the old one.
+    beside: String,
+    // The directory of both.
+    folder: String,
+    // It is locked.
+    _lock: File,
+}
+
+// A name with this after it.
+fn with_end(alloc: Global, name: &str, end: &str) -> Result<String, AllocError> {
+    let mut text = String::from_str(alloc, name)?;
+    text.push_str(end)?;
+    Ok(text)
+}
+
+// The directory that a path is in.
+fn folder_of(alloc: Global, path: &str) -> Result<String, AllocError> {
+    match path.rfind('/') {
+        Some(0) => String::from_str(alloc, "/"),
+        Some(place) => String::from_str(alloc, &path[..place]),
+        None => String::from_str(alloc, "."),
+    }
+}
+
+// The process whose number a file holds, if it holds one, of which at most 64 bytes are read.
+fn holder_of(file: &mut File) -> Option<u64> {
+    let mut bytes = [0u8; 64];
+    let mut length = 0usize;
+    'reads: while length < bytes.len() {
+        match file.read(&mut bytes[length..]) {
+            Ok(0) => break,
+            Ok(count) => length += count,
+            Err(_) => return None,
+        }
+    }
+    match std::str::from_utf8(&bytes[..length]) {
+        Ok(text) => number_of(text.trim()),
+        Err(_) => None,
+    }
+}
+
+fn number_line(alloc: Global, number: u64) -> Result<Vec<u8>, AllocError> {
+    let mut text = Vec::new(alloc);
+    add_number(&mut text, number)?;
+    text.push(b'\n')?;
+    Ok(text)
+}
+
+// Locks the file with this name, and writes the number of this process into it.
+fn lock(host: &HostRuntime, alloc: Global, name: &str) -> Result<File, StateFileFault> {
+    let mut how = OpenOptions::new();
+    how.read(true).write(true).create(true);
+    let mut file = how
+        .open(host, name)
+        .map_err(|error| StateFileFault::Device(error.kind()))?;
+    match file.try_lock() {
+        Ok(()) => {}
+        Err(TryLockError::WouldBlock) => return Err(StateFileFault::Locked(holder_of(&mut file))),
+        Err(TryLockError::Error(error)) => return Err(StateFileFault::Device(error.kind())),
+    }
+    let text = number_line(alloc, process::id(host.process()) as u64)?;
+    match file.set_len(0).and_then(|_| file.write_all(&text)) {
+        Ok(()) => Ok(file),
+        Err(error) => Err(StateFileFault::Device(error.kind())),
+    }
+}
+
+impl StateFile {
+    /// Takes the file with this path, which need not be there: another run with it is refused from
+    /// then on.
+    pub(crate) fn lock(
+        host: HostRuntime,
+        alloc: Global,
+        path: &str,
+    ) -> Result<StateFile, StateFileFault> {
+        let name = with_end(alloc, path, ".lock")?;
+        let lock = lock(&host, alloc, name.as_str())?;
+        Ok(StateFile {
+            host,
+            path: String::from_str(alloc, path)?,
+            beside: with_end(alloc, path, ".new")?,
+            folder: folder_of(alloc, path)?,
+            _lock: lock,
+        })
+    }
+
+    /// Its path.
+    pub(crate) fn path(&self) -> &str {
+        self.path.as_str()
+    }
+
+    /// The state that it holds, if it is there.
+    pub(crate) fn read(&self, alloc: Global) -> Result<Option<State>, StateFileFault> {
+        let bytes = match fs::read(&self.host, self.path.as_str()) {
+            Ok(bytes) => bytes,
+            Err(error) if error.kind() == ErrorKind::NotFound => return Ok(None),
+            Err(error) if error.kind() == ErrorKind::OutOfMemory => {
+                return Err(StateFileFault::Memory);
+            }
+            Err(error) => return Err(StateFileFault::Device(error.kind())),
+        };
+        match read_state(alloc, &bytes) {
+            Ok(state) => Ok(Some(state)),
+            Err(StateFault::Form) => Err(StateFileFault::Form),
+            Err(StateFault::Memory) => Err(StateFileFault::Memory),
+        }
+    }
+
+    /// Replaces what it holds by this state. It holds the old one or the new one at any moment, and the
+    /// new one once this returns, also after a loss of power.
+    pub(crate) fn replace(&self, alloc: Global, state: &State) -> Result<(), StateFileFault> {
+        let text = write_state(alloc, state)?;
+        match self.replace_text(&text) {
+            Ok(()) => Ok(()),
+            Err(error) => Err(StateFileFault::Device(error)),
+        }
+    }
+
+    fn replace_text(&self, text: &[u8]) -> Result<(), ErrorKind> {
+        self.write_beside(text)?;
+        fs::rename(&self.host, self.beside.as_str(), self.path.as_str()).map_err(
+            |error| error.kind(),
+        )?;
+        // Where directories cannot be synchronized, the name is as safe as the system keeps it.
+        if let Ok(folder) = File::open(&self.host, self.folder.as_str()) {
+            let _ = folder.sync_all();
+        }
+        Ok(())
+    }
+
+    // Writes this beside it, and synchronizes it.
+    fn write_beside(&self, text: &[u8]) -> Result<(), ErrorKind> {
+        let mut file = File::create(&self.host, self.beside.as_str()).map_err(
+            |error| error.kind(),
+        )?;
+        file.write_all(text).map_err(|error| error.kind())?;
+        file.sync_all().map_err(|error| error.kind())
+    }
+}

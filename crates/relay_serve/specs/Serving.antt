@@ -1,0 +1,72 @@
+-- The requests that workers settle, one after another, and what their producers have put and taken by then.
+use Rattle.std.specs.Prelude.{◌≡◌, ℕ, zero, suc, ◌+◌, List, [], ◌∷◌, ◌++◌, flat_map}
+use Rattle.relay_queue.specs.Ends.{Queue}
+use Rattle.relay_producer.specs.Ends.{ClosesAll}
+use Rattle.relay_producer.specs.States.{ClosedProducerState}
+use Rattle.relay_receipts.specs.Ends.{TakeEnd}
+use Rattle.relay_receipts.specs.Windows.{WindowState}
+use Rattle.relay_receipts.specs.declared.notice.Notice.{Notice}
+use Rattle.relay_threads.specs.Relay.{new_producer}
+use Rattle.relay_run.specs.Identities.{identity_of, identity_of_closed}
+use Rattle.relay_front.specs.declared.ending.End.{End}
+use Rattle.relay_front.specs.Operations.{Write}
+use Rattle.relay_telling.specs.declared.ending.Ending.{Ending}
+use Rattle.relay_serve.specs.Settling.{Settles, puts_in, heard_in}
+
+-- a request: its writes, those of them that were put, the notices that were taken for it, and how each write ended
+pub record Request : Type 0 where
+  pub writes : List Write
+  pub put : List Write
+  pub heard : List (Notice Ending)
+  pub ends : List End
+
+-- from the first state of the producer on these requests were settled, one after another
+abbrev pub AreSettled : List Request → WindowState Ending → WindowState Ending → Type 0
+AreSettled [] old new = new ≡ old
+AreSettled (r ∷ rs) old new =
+    (mid : WindowState Ending) × (settled : Settles old r.writes r.ends mid) × (puts_in settled.events ≡ r.put) × (heard_in settled.events ≡ r.heard)
+    × AreSettled rs mid new
+
+-- some requests were
+pub record Served (start now : WindowState Ending) : Type 0 where
+  pub requests : List Request
+  pub settled : AreSettled requests start now
+
+-- whatever requests were settled before, some were by then
+abbrev pub GoesOn : WindowState Ending → WindowState Ending → Type 0
+GoesOn old new = (start : WindowState Ending) → Served start old → Served start new
+
+-- all that was put for these requests, in order
+abbrev pub all_put : List Request → List Write
+all_put rs = flat_map (λ r. r.put) rs
+
+-- the notices that were taken for these requests, in order
+abbrev pub taken_by : List Request → List (Notice Ending)
+taken_by rs = flat_map (λ r. r.heard) rs
+
+-- A worker with this producer has served some requests, and its producer is closed; from the end of the channel that it was
+-- given, the notices were taken that were taken for these requests, and no others.
+pub record HasServed (old : WindowState Ending) (closed : ClosedProducerState) (receipts : TakeEnd Ending) : Type 0 where
+  pub last : WindowState Ending
+  pub served : Served old last
+  pub closes : ClosesAll last.producer.ends closed.ends
+  pub same : (closed.producer ≡ last.producer.producer) × (closed.put ≡ last.producer.put)
+  pub identity : identity_of_closed closed ≡ identity_of old.producer
+  pub took : receipts ≡ record old.receipts { taken = old.receipts.taken ++ taken_by served.requests }
+
+-- each worker with one of these producers has, in order
+abbrev pub HaveServed : List (WindowState Ending) → List ClosedProducerState → List (TakeEnd Ending) → Type 0
+HaveServed [] [] [] = Unit {0}
+HaveServed [] [] (t ∷ ts) = ⊥
+HaveServed [] (c ∷ cs) ts = ⊥
+HaveServed (w ∷ ws) [] ts = ⊥
+HaveServed (w ∷ ws) (c ∷ cs) [] = ⊥
+HaveServed (w ∷ ws) (c ∷ cs) (t ∷ ts) = HasServed w c t × HaveServed ws cs ts
+
+-- the workers numbered p, p + 1 and so on, so many of them, settled these requests, each with a producer of its own, which had put
+-- nothing
+abbrev pub WorkersSettled : List Queue → ℕ → (ℕ → List Request) → (count p : ℕ) → Type 0
+WorkersSettled queues epoch requests zero p = Unit {0}
+WorkersSettled queues epoch requests (suc count) p =
+    ((start : WindowState Ending) × (last : WindowState Ending) × (start.producer ≡ new_producer queues epoch p) × AreSettled (requests p) start last)
+    × WorkersSettled queues epoch requests count (p + 1)

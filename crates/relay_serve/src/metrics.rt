@@ -1,0 +1,178 @@
+//! What a server counts, in the text format of Prometheus, version 0.0.4.
+use crate::board::Board;
+use crate::counts::BOUNDS;
+use relay_words::add_number;
+use std::alloc::{AllocError, Global};
+
+// The lines in front of a metric.
+fn add_heading(text: &mut Vec<u8>, name: &str, kind: &str, help: &str) -> Result<(), AllocError> {
+    for part in [
+        "# HELP ",
+        name,
+        " ",
+        help,
+        "\n# TYPE ",
+        name,
+        " ",
+        kind,
+        "\n",
+    ] {
+        text.extend_from_slice(part.as_bytes())?;
+    }
+    Ok(())
+}
+
+// The line of a value.
+fn add_value(text: &mut Vec<u8>, name: &str, value: u64) -> Result<(), AllocError> {
+    text.extend_from_slice(name.as_bytes())?;
+    text.push(b' ')?;
+    add_number(text, value)?;
+    text.push(b'\n')?;
+    Ok(())
+}
+
+// A metric with one value.
+fn add_single(
+    text: &mut Vec<u8>,
+    name: &str,
+    kind: &str,
+    help: &str,
+    value: u64,
+) -> Result<(), AllocError> {
+    add_heading(text, name, kind, help)?;
+    add_value(text, name, value)
+}
+
+fn add_ends(text: &mut Vec<u8>, board: &Board) -> Result<(), AllocError> {
+    add_heading(
+        text,
+        "relay_operations_total",
+        "counter",
+        "Operations of requests that were answered, by how they ended.",
+    )?;
+    let ends = board.counts.ends();
+    add_value(
+        text,
+        "relay_operations_total{end=\"applied\"}",
+        ends.applied,
+    )?;
+    add_value(
+        text,
+        "relay_operations_total{end=\"already\"}",
+        ends.already,
+    )?;
+    add_value(
+        text,
+        "relay_operations_total{end=\"reported\"}",
+        ends.reported,
+    )?;
+    add_value(text, "relay_operations_total{end=\"late\"}", ends.late)?;
+    add_value(text, "relay_operations_total{end=\"unput\"}", ends.unput)?;
+    add_value(text, "relay_operations_total{end=\"gone\"}", ends.gone)
+}
+
+// A number of milliseconds, in seconds.
+fn add_seconds(text: &mut Vec<u8>, millis: u64) -> Result<(), AllocError> {
+    add_number(text, millis / 1_000)?;
+    text.push(b'.')?;
+    let rest = millis % 1_000;
+    for unit in [100, 10, 1] {
+        add_number(text, rest / unit % 10)?;
+    }
+    Ok(())
+}
+
+fn add_times(text: &mut Vec<u8>, board: &Board) -> Result<(), AllocError> {
+    let name = "relay_request_seconds";
+    add_heading(
+        text,
+        name,
+        "histogram",
+        "How long requests that write took, from the first put.",
+    )?;
+    let mut count = 0u64;
+    for place in 0..BOUNDS.len() {
+        count = count.saturating_add(board.counts.within(place));
+        text.extend_from_slice(b"relay_request_seconds_bucket{le=\"")?;
+        text.extend_from_slice(BOUNDS[place].1.as_bytes())?;
+        add_value(text, "\"}", count)?;
+    }
+    count = count.saturating_add(board.counts.within(BOUNDS.len()));
+    add_value(text, "relay_request_seconds_bucket{le=\"+Inf\"}", count)?;
+    text.extend_from_slice(b"relay_request_seconds_sum ")?;
+    add_seconds(text, board.counts.took())?;
+    text.push(b'\n')?;
+    add_value(text, "relay_request_seconds_count", count)
+}
+
+// What is known of the index.
+fn add_index(text: &mut Vec<u8>, board: &Board) -> Result<(), AllocError> {
+    let index = &board.index;
+    add_single(
+        text,
+        "relay_index_up",
+        "gauge",
+        "Whether the index has answered since an exchange or a try to connect failed last.",
+        u64::from(!board.is_down()),
+    )?;
+    add_single(
+        text,
+        "relay_index_requests_total",
+        "counter",
+        "Requests to the index.",
+        index.requests(),
+    )?;
+    add_single(
+        text,
+        "relay_index_answers_total",
+        "counter",
+        "Requests that the index answered, with whatever status.",
+        index.answers(),
+    )?;
+    add_single(
+        text,
+        "relay_index_operations_total",
+        "counter",
+        "Operations in requests to the index.",
+        index.operations(),
+    )?;
+    add_single(
+        text,
+        "relay_index_repeats_total",
+        "counter",
+        "Operations that a request to the index did not settle.",
+        index.repeats(),
+    )
+}
+
+/// The metrics. `AllocError`: allocation failed.
+pub(crate) fn metrics_text(alloc: Global, board: &Board) -> Result<Vec<u8>, AllocError> {
+    let mut text = Vec::new(alloc);
+    add_ends(&mut text, board)?;
+    add_times(&mut text, board)?;
+    add_index(&mut text, board)?;
+    add_heading(
+        &mut text,
+        "relay_connections",
+        "gauge",
+        "Connections of clients.",
+    )?;
+    add_value(
+        &mut text,
+        "relay_connections{state=\"waiting\"}",
+        board.waiting(),
+    )?;
+    add_value(
+        &mut text,
+        "relay_connections{state=\"served\"}",
+        board.served(),
+    )?;
+    add_single(
+        &mut text,
+        "relay_epoch",
+        "gauge",
+        "The epoch of the versions.",
+        u64::from(board.epoch),
+    )?;
+    Ok(text)
+}

@@ -1,0 +1,444 @@
+"""A run that keeps its state: it is killed and started again by the same command, and ended by a file."""
+import json
+import os
+import random
+import re
+import shlex
+import shutil
+import signal
+import socket
+import subprocess
+import tempfile
+import threading
+import time
+
+from bulk_server import Server
+from program import FEWER, RELAY, check, leave, run, skip, unlogged
+from run_cases import operations, wait_until, written
+
+# How often a run is killed, and the number of its operations.
+KILLS, COUNT = (10, 4_000) if FEWER else (50, 20_000)
+COUNTS = re.compile(rb"applied (\d+) already (\d+) reported (\d+)\n\Z")
+
+
+class Noting(Server):
+    """Notes the number of each index action that arrives, as the source has it, by the epoch of its version."""
+
+    def __init__(self, *more, **options):
+        self.sent = {}
+        super().__init__(*more, **options)
+
+    def run(self, kind, meta, source):
+        if source is not None:
+            self.sent.setdefault((meta["version"] - 1) // 2**40, []).append((int(meta["_id"].split("-")[0]), json.loads(source)["n"]))
+        return super().run(kind, meta, source)
+
+
+def command(port, folder, files, *more):
+    state, report = os.path.join(folder, "state"), os.path.join(folder, "report")
+    return [RELAY, "run", "--to", "127.0.0.1:%d" % port, "--state", state, "--report", report, *more, *files]
+
+
+def start(*words):
+    return subprocess.Popen(command(*words), stdin=subprocess.DEVNULL, stdout=subprocess.PIPE, stderr=subprocess.PIPE)
+
+
+def finish(*words):
+    done = subprocess.run(command(*words), stdin=subprocess.DEVNULL, capture_output=True, timeout=300)
+    return done.returncode, done.stdout, unlogged(done.stderr)
+
+
+def state_of(folder):
+    """The state in a folder; None if there is none."""
+    try:
+        with open(os.path.join(folder, "state")) as file:
+            return json.loads(file.read())
+    except FileNotFoundError:
+        return None
+
+
+def marks_of(folder):
+    state = state_of(folder)
+    return state and [(it["offset"], it["line"], it["count"]) for it in state["inputs"]]
+
+
+def lines_of(ops):
+    return sum(1 if source is None else 2 for _, source in ops)
+
+
+def add(path, text):
+    with open(path, "a") as file:
+        file.write(text)
+
+
+def from_run_to_run():
+    """A file is gone on with where it was left; one that grew, at what is new."""
+    with tempfile.TemporaryDirectory() as folder:
+        first, second = operations(0, 700, 50), operations(1, 300, 20)
+        files = [written(folder, 0, first), written(folder, 1, second)]
+        server = Noting(refuse=lambda meta: 400 if meta["_id"] == "1-3" else None)
+        status, out, err = finish(server.port, folder, files)
+        check("a first run", status == 5 and COUNTS.search(out).groups() == (b"985", b"0", b"15") and err == b"", (status, out, err))
+        whole = [(os.path.getsize(path), lines_of(ops), len(ops)) for path, ops in zip(files, (first, second))]
+        state = state_of(folder)
+        check("its state", marks_of(folder) == whole and state["epoch"] == 1 and [it["path"] for it in state["inputs"]] == files, state)
+        check("the files beside it", sorted(os.listdir(folder)) == ["ops0.ndjson", "ops1.ndjson", "report", "state", "state.lock"], os.listdir(folder))
+        requests = server.requests
+        status, out, err = finish(server.port, folder, files)
+        says = b"".join(b"%s: goes on after %d operations, at line %d\n" % (path.encode(), len(ops), lines_of(ops) + 1) for path, ops in zip(files, (first, second)))
+        check("a second run", (status, out, err) == (0, b"applied 0 already 0 reported 0\n", says) and server.requests == requests, (status, out, err))
+        check("its epoch", state_of(folder)["epoch"] == 2, state_of(folder))
+        add(files[1], '{"index":{"_index":"books","_id":"1-3"}}\n{"n":300}\n\n{"delete":{"_index":"books","_id":"1-4"}}\n')
+        status, out, err = finish(server.port, folder, files)
+        check("a file that grew", status == 5 and out == b"report 3.1:301 books/1-3 Refused 400 planned\napplied 1 already 0 reported 1\n", (status, out, err))
+        check("its mark", marks_of(folder) == [whole[0], (os.path.getsize(files[1]), whole[1][1] + 4, 302)], state_of(folder))
+        with open(os.path.join(folder, "report")) as report:
+            saved = [json.loads(line) for line in report]
+        check("the reports of all runs", len(saved) == 16 and saved[-1]["number"] == 301 and saved[-1]["epoch"] == 3, saved)
+        picked = subprocess.run([RELAY, "pick", "--report", os.path.join(folder, "report"), *files], capture_output=True, timeout=60)
+        check("what is picked", picked.stdout.endswith(b'{"n":300}\n') and picked.returncode == 0, picked)
+        add(files[1], '{"index":{"_index":"books","_id":"9"}}\n{"n":9}\n{"create":{}}\n')
+        line = whole[1][1] + 4 + 3
+        status, out, err = finish(server.port, folder, files)
+        check("the line of a fault", status == 2 and b": line %d: " % line in err and out == b"applied 1 already 0 reported 0\n", (status, out, err))
+        server.close()
+
+
+def refused():
+    """What is not what it was is refused, and nothing is sent."""
+    with tempfile.TemporaryDirectory() as folder:
+        files = [written(folder, p, operations(p, 50, 5)) for p in range(2)]
+        server = Server()
+        check("a first run", finish(server.port, folder, files)[0] == 0)
+        state, requests = os.path.join(folder, "state"), server.requests
+        kept = open(state).read()
+
+        def refuses(name, wanted, *words):
+            done = finish(server.port, folder, *words)
+            check("%s is refused" % name, done == wanted and server.requests == requests and open(state).read() == kept, done)
+
+        others = (2, b"", b"%s: is the state of other files, or of these in another order\n" % state.encode())
+        refuses("another order", others, files[::-1])
+        refuses("one file less", others, files[:1])
+        refuses("one file more", others, [*files, written(folder, 2, operations(2, 5, 5))])
+        text, aside = open(files[1]).read(), files[1] + ".aside"
+        os.rename(files[1], aside)
+        refuses("a file that is not there", (3, b"", b"%s: open or read failed\n" % files[1].encode()), files)
+        add(files[1], text)
+        refuses("a file that was replaced", (2, b"", b"%s: is not the file that its state is of\n" % files[1].encode()), files)
+        os.rename(aside, files[1])
+        with open(files[1], "r+") as file:
+            file.truncate(len(text) - 1)
+        refuses("a shorter file", (2, b"", b"%s: is shorter than it was\n" % files[1].encode()), files)
+        with open(files[1], "r+") as file:
+            file.write(text.replace("books", "bouks", 1))
+        refuses("another start", (2, b"", b"%s: begins with other bytes than it did\n" % files[1].encode()), files)
+        with open(files[1], "r+") as file:
+            file.write(text)
+        for name, damaged in (("an empty state", ""), ("half a state", kept[: len(kept) // 2]), ("a state with a blank", " " + kept)):
+            kept = damaged
+            with open(state, "w") as file:
+                file.write(damaged)
+            refuses(name, (2, b"", b"%s: not a state of a run\n" % state.encode()), files)
+        kept = '{"epoch":4194303,"inputs":[]}\n'
+        with open(state, "w") as file:
+            file.write(kept)
+        refuses("the last epoch", others, files)
+        os.remove(state)
+        check("a state that is gone", finish(server.port, folder, files)[0] == 5)
+        server.close()
+    for more in (["--state", "s"], ["--state", "s", "--report", "r", "--skip-invalid", "i"], ["--state", "s", "--report", "r", "--epoch-from", "a/b"]):
+        done = run(["run", "--to", "127.0.0.1:1", *more, "x"])
+        check("refused together: %s" % more, done.returncode == 1 and done.stdout == b"" and b"error: " in done.stderr, done)
+
+
+def two_at_once():
+    """A second run with the same state is refused, and told who has it."""
+    with tempfile.TemporaryDirectory() as folder:
+        files, server = [written(folder, 0, operations(0, 5, 5))], Server(delay=lambda: 2)
+        running = start(server.port, folder, files)
+        wait_until(lambda: state_of(folder))
+        requests, begun = server.requests, time.monotonic()
+        done = finish(server.port, folder, files)
+        wanted = b"%s: another run has it\n  process %d\n" % (os.path.join(folder, "state").encode(), running.pid)
+        check("a second run is refused", done == (3, b"", wanted) and time.monotonic() - begun < 2 and server.requests == requests, done)
+        out, err = running.communicate(timeout=60)
+        check("the first one goes on", running.returncode == 0 and out == b"applied 5 already 0 reported 0\n", (out, err))
+        server.close()
+
+
+def replaced():
+    """Whatever is left of a replacement that was not finished, the state is the old one; one that cannot be written is said."""
+    with tempfile.TemporaryDirectory() as folder:
+        files, server = [written(folder, 0, operations(0, 50, 5))], Server()
+        new = os.path.join(folder, "state.new")
+        add(new, "half of a state that was never renamed")
+        check("after half a replacement", finish(server.port, folder, files)[0] == 0 and marks_of(folder)[0][2] == 50, state_of(folder))
+        add(files[0], '{"delete":{"_index":"books","_id":"new"}}\n')
+        os.symlink("/dev/full", new)
+        requests, kept = server.requests, state_of(folder)
+        done = finish(server.port, folder, files)
+        check("a full disk at the start", done[0] == 3 and done[2].startswith(b"%s: could not be used\n" % os.path.join(folder, "state").encode()) and server.requests == requests and state_of(folder) == kept, done)
+        os.remove(new)
+        os.mkfifo(new)
+        running = start(server.port, folder, files)
+        time.sleep(0.5)
+        running.send_signal(signal.SIGKILL)
+        running.communicate()
+        check("killed in the first replacement", server.requests == requests and state_of(folder) == kept, state_of(folder))
+        os.remove(new)
+        server.delay = lambda: 3
+        running = start(server.port, folder, files)
+        wait_until(lambda: state_of(folder) != kept)
+        os.symlink("/dev/full", new)
+        out, err = running.communicate(timeout=60)
+        said = b"%s: write failed\n" % os.path.join(folder, "state").encode()
+        check("a full disk meanwhile", running.returncode == 3 and out == b"applied 1 already 0 reported 0\n" and err.endswith(said) and marks_of(folder)[0][2] == 50, (out, err, state_of(folder)))
+        os.remove(new)
+        server.delay = None
+        check("and again", finish(server.port, folder, files)[0] == 0 and marks_of(folder)[0][2] == 51, state_of(folder))
+        server.close()
+
+
+# The system calls of a replacement, in order: those on the new file, and then those on the folder.
+REPLACES = [(name, "state.new") for name in ("openat", "write", "fsync", "close", "rename")] + [(name, "") for name in ("openat", "fsync", "close")]
+
+
+def killed_in_a_replacement():
+    """A run that is killed before any system call of its first or last replacement leaves the old state or the new one, and the same
+    command goes on from it."""
+    if shutil.which("strace") is None:
+        return skip("kills between the system calls of a replacement", "strace")
+    with tempfile.TemporaryDirectory() as folder:
+        folder = os.path.realpath(folder)
+        ops, server = operations(0, 10, 5), Noting()
+        files = [written(folder, 0, ops)]
+        check("a first run", finish(server.port, folder, files)[0] == 0)
+        for number in (1, 2):
+            for place, (name, on) in enumerate(REPLACES):
+                ops.append(("%d-%d" % (number, place), None))
+                add(files[0], '{"delete":{"_index":"books","_id":"%s"}}\n' % ops[-1][0])
+                old, applied = state_of(folder), len(server.index.applied)
+                trace = ["strace", "-f", "-qq", "-o", "/dev/null", "-P", os.path.join(folder, on), "-e", "trace=" + name, "-e", "inject=%s:signal=KILL:when=%d" % (name, number)]
+                done = subprocess.run([*trace, *command(server.port, folder, files)], stdin=subprocess.DEVNULL, capture_output=True, timeout=60)
+                now, is_new = state_of(folder), place > REPLACES.index(("rename", "state.new"))
+                epoch = old["epoch"] + (number == 2 or is_new)
+                mark = len(ops) if number == 2 and is_new else len(ops) - 1
+                what = "killed before %s of %s, in the %s replacement" % (name, on or "the folder", ("first", "last")[number - 1])
+                check(what, done.returncode == -signal.SIGKILL and (now["epoch"], now["inputs"][0]["count"]) == (epoch, mark), (done.returncode, now, epoch, mark))
+                check("%s: what was sent" % what, len(server.index.applied) - applied == (number == 2), len(server.index.applied) - applied)
+                check("%s: and again" % what, finish(server.port, folder, files)[0] == 0 and state_of(folder)["inputs"][0]["count"] == len(ops), state_of(folder))
+        judge(server, [ops], set())
+        server.close()
+
+
+def chaos(dice):
+    """A server that takes its time, refuses items with 429 and loses replies."""
+    faults = ("drop before", "drop after", "half", 429, 503)
+    return Noting(
+        plan=lambda number: dice.choice(faults) if dice.random() < 0.1 else None,
+        refuse=lambda meta: 429 if dice.random() < 0.02 else None,
+        delay=lambda: dice.uniform(0.05, 0.2),
+    )
+
+
+def outages(server, dice, ended):
+    while not ended.wait(dice.uniform(2, 5)):
+        server.rest(dice.uniform(0.1, 0.5))
+
+
+def killed():
+    """However often a run is killed, the same command ends with every operation applied or reported, in order, and what was settled is
+    not sent again but for the last second."""
+    if FEWER:
+        leave("40 of 50 kills of a run with a state, over 20,000 operations")
+    with tempfile.TemporaryDirectory() as folder:
+        dice, ended = random.Random(53), threading.Event()
+        producers = [operations(p, COUNT // 2, 40) for p in range(2)]
+        files = [written(folder, p, ops) for p, ops in enumerate(producers)]
+        server = chaos(dice)
+        troubles = threading.Thread(target=outages, args=(server, dice, ended))
+        troubles.start()
+        begins, kills, words = {}, 0, (server.port, folder, files, "--lanes", "2", "--count", "50", "--linger", "0", "--attempts", "32")
+        for _ in range(KILLS):
+            running = start(*words)
+            wait_until(lambda: state_of(folder) and state_of(folder)["epoch"] not in begins)
+            state = state_of(folder)
+            begins[state["epoch"]] = [it["count"] for it in state["inputs"]]
+            try:
+                running.wait(dice.uniform(0, 2.6))
+                break
+            except subprocess.TimeoutExpired:
+                kills += 1
+            running.send_signal(signal.SIGKILL)
+            running.communicate()
+        status, out, err = finish(*words)
+        ended.set()
+        troubles.join()
+        check("the last run ends", status in (0, 5) and COUNTS.search(out), (status, out[-200:], err))
+        check("it was killed often", kills >= min(KILLS, 20), (kills, begins))
+        check("each was resumed", sorted(begins.values()) == list(begins.values()) and max(begins.values()) > [COUNT // 8] * 2, begins)
+        with open(os.path.join(folder, "report")) as report:
+            named = {(it["producer"], it["number"]) for it in map(json.loads, report)}
+        judge(server, producers, named)
+        again = [(epoch, it) for epoch, sent in server.sent.items() for it in sent if epoch in begins and it[1] < begins[epoch][it[0]]]
+        check("nothing settled is sent again", not again, again[:5])
+        check("everything is settled", marks_of(folder) == [(os.path.getsize(path), lines_of(ops), len(ops)) for path, ops in zip(files, producers)], state_of(folder))
+        server.close()
+
+
+def judge(server, producers, named):
+    """Each operation was applied or is reported; within each epoch the writes of a document are in order, and its last one was that of its last
+    operation."""
+    missing, in_order, last = [], True, True
+    for p, ops in enumerate(producers):
+        applied = {}
+        for (_, identity), writes in server.index.applied.items():
+            if identity.startswith("%d-" % p):
+                applied[identity] = writes
+        done = {json.loads(source)["n"] for writes in applied.values() for _, _, source in writes if source is not None}
+        missing += [(p, n) for n, (_, source) in enumerate(ops) if source is not None and n not in done and (p, n + 1) not in named]
+        for identity, writes in applied.items():
+            put = [source for it, source in ops if it == identity]
+            by_epoch = {}
+            for version, _, source in writes:
+                by_epoch.setdefault((version - 1) // 2**40, []).append(source)
+            in_order = in_order and all(is_run_of(found, put) for found in by_epoch.values())
+            numbers = [n + 1 for n, (it, _) in enumerate(ops) if it == identity]
+            last = last and (writes[-1][2] == put[-1] or (p, numbers[-1]) in named)
+    check("every operation was applied or reported", not missing, missing[:5])
+    check("in order within each epoch", in_order)
+    check("the last state of each document", last)
+
+
+def is_run_of(found, put):
+    """Returns true if what was found was put in this order, maybe with others between."""
+    left = iter(put)
+    return all(it in left for it in found)
+
+
+def ended_by(folder, process, seconds):
+    """Makes the file that ends a run, and returns how it ended, and whether it did within this time."""
+    begun = time.monotonic()
+    add(os.path.join(folder, "until"), "")
+    out, err = process.communicate(timeout=60)
+    return process.returncode, out, unlogged(err), time.monotonic() - begun < seconds
+
+
+def until_idle():
+    """A run that waits for a pipe, or for nothing, ends at once."""
+    with tempfile.TemporaryDirectory() as folder:
+        server, pipe, until = Server(), os.path.join(folder, "pipe"), os.path.join(folder, "until")
+        os.mkfifo(pipe)
+        for name, words in (("a pipe", [pipe]), ("standard input", ["-"])):
+            process = subprocess.Popen([RELAY, "run", "--to", "127.0.0.1:%d" % server.port, "--until", until, "--linger", "0", "--index", "books", *words], stdin=subprocess.PIPE, stdout=subprocess.PIPE, stderr=subprocess.PIPE)
+            writer = open(pipe, "wb") if words[0] == pipe else process.stdin
+            before = len(server.index.applied)
+            writer.write(b'{"delete":{"_id":"%s 1"}}\n{"delete":{"_id":"%s 2"}}\n{"delete":' % (name.encode(), name.encode()))
+            writer.flush()
+            wait_until(lambda: len(server.index.applied) == before + 2)
+            time.sleep(0.3)
+            begun = time.monotonic()
+            add(until, "")
+            process.wait(timeout=60)
+            took = time.monotonic() - begun
+            out, err = process.stdout.read(), process.stderr.read()
+            check("%s that waits" % name, (process.returncode, out, unlogged(err)) == (0, b"applied 2 already 0 reported 0\n", b"stopped: --until\n") and took < 2, (process.returncode, out, err, took))
+            writer.close() if writer is not process.stdin else process.stdin.close()
+            os.remove(until)
+        nobody = subprocess.Popen([RELAY, "run", "--to", "127.0.0.1:%d" % server.port, "--until", until, "--index", "books", pipe], stdin=subprocess.DEVNULL, stdout=subprocess.PIPE, stderr=subprocess.PIPE)
+        time.sleep(0.3)
+        done = ended_by(folder, nobody, 2)
+        check("a pipe that nobody writes to", done == (0, b"applied 0 already 0 reported 0\n", b"stopped: --until\n", True), done)
+        server.close()
+
+
+def go_down(server):
+    """Stops listening, and drops all connections."""
+    server.close()
+    with server.lock:
+        streams, server.streams = server.streams, []
+    for stream in streams:
+        try:
+            stream.shutdown(socket.SHUT_RDWR)
+        except OSError:
+            pass
+
+
+def until_busy():
+    """A run with requests in flight finishes them, and its state has them; in an outage without end it is left, with what was settled."""
+    with tempfile.TemporaryDirectory() as folder:
+        ops = operations(0, 20_000, 100)
+        files, until = [written(folder, 0, ops)], os.path.join(folder, "until")
+        server = Noting(delay=lambda: 0.05)
+        words = (server.port, folder, files, "--until", until, "--count", "50", "--linger", "0", "--held", "200", "--capacity", "50", "--give-up-after", "never", "--timeout", "2s")
+        process = start(*words)
+        wait_until(lambda: server.requests > 10)
+        status, out, err, _ = ended_by(folder, process, 60)
+        counted = int(COUNTS.search(out)[1])
+        check("requests in flight", status == 0 and err == b"stopped: --until\n" and 0 < counted < 20_000 and marks_of(folder)[0][2] == counted, (status, out, err, state_of(folder)))
+        os.remove(until)
+        process = start(*words)
+        wait_until(lambda: server.requests > counted // 50 + 10)
+        go_down(server)
+        time.sleep(0.5)
+        status, out, err, soon = ended_by(folder, process, 4)
+        mark = marks_of(folder)[0][2]
+        done = {json.loads(source)["n"] for writes in server.index.applied.values() for _, _, source in writes if source is not None}
+        lacks = [n for n, (_, source) in enumerate(ops[:mark]) if source is not None and n not in done]
+        check("an outage", soon and status == 3 and out == b"" and err.endswith(b"stopped: --until; not all was settled\n") and mark >= counted and not lacks, (soon, status, out, err, mark, lacks[:5]))
+        os.remove(until)
+        server.listen(server.port)
+        server.delay = None
+        status, out, err = finish(*words)
+        check("and again", status == 0 and marks_of(folder)[0][2] == 20_000, (status, out, err))
+        judge(server, [ops], set())
+        server.close()
+
+
+def unit():
+    """Returns what the unit in docs/OPERATING.md has, by its keys."""
+    with open(os.path.join(os.path.dirname(os.path.dirname(os.path.abspath(__file__))), "docs", "OPERATING.md"), encoding="utf-8") as file:
+        text = file.read().split("    [Service]\n")[1].split("\n\n")[0].replace("\\\n", "")
+    return dict(line.strip().split("=", 1) for line in text.split("\n"))
+
+
+def by_its_unit():
+    """The commands of the unit in docs/OPERATING.md: it is stopped while it works, and goes on when it is started again."""
+    with tempfile.TemporaryDirectory() as folder:
+        ops, keys = operations(0, 20_000, 100), unit()
+        os.rename(written(folder, 0, ops), os.path.join(folder, "ops.ndjson"))
+        server = Server(delay=lambda: 0.05)
+        words = shlex.split(keys["ExecStart"].replace("/usr/local/bin/relay", RELAY).replace("127.0.0.1:9200", "127.0.0.1:%d" % server.port))
+        counts = []
+        for is_last in (False, True):
+            subprocess.run(shlex.split(keys["ExecStartPre"]), cwd=folder, check=True)
+            process, done = subprocess.Popen(words, cwd=folder, stdin=subprocess.DEVNULL, stdout=subprocess.PIPE, stderr=subprocess.PIPE), []
+            ending = threading.Thread(target=lambda: done.append(process.communicate(timeout=120)))
+            ending.start()
+            if is_last:
+                server.delay = None
+            else:
+                wait_until(lambda: server.requests > 10)
+                subprocess.run(shlex.split(keys["ExecStop"]), cwd=folder, env={**os.environ, "MAINPID": str(process.pid)}, check=True, timeout=float(keys["TimeoutStopSec"]))
+                check("its ExecStop waits", process.poll() is not None)
+            ending.join()
+            counts.append(int(COUNTS.search(done[0][0])[1]))
+            said = b"" if is_last else b"stopped: --until\n"
+            check("a unit of systemd", process.returncode == 0 and unlogged(done[0][1]).endswith(said), (process.returncode, done))
+        check("it goes on", counts[0] > 0 and sum(counts) == 20_000, counts)
+        judge(server, [ops], set())
+        server.close()
+
+
+def until_there():
+    """A file that is there when the run begins ends it at once."""
+    with tempfile.TemporaryDirectory() as folder:
+        files, server, until = [written(folder, 0, operations(0, 5, 5))], Server(), os.path.join(folder, "until")
+        add(until, "")
+        status, out, err = finish(server.port, folder, files, "--until", until)
+        check("a file that is there", (status, err) in ((0, b"stopped: --until\n"), (0, b"")), (status, out, err))
+        server.close()
+
+
+GROUPS = (from_run_to_run, refused, two_at_once, replaced, killed_in_a_replacement, until_idle, until_busy, by_its_unit, until_there, killed)
