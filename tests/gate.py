@@ -5,11 +5,11 @@ each crate: for its proof, its tests and its edits. What ends between two looks 
 earlier one. The budget of a crate is 15 processor minutes, and 20 for the largest (`docs/CONTRIBUTING.md`).
 
 Before `rt ci` tries the must-fail edits of a crate, it proves the crate once more, into a folder that it removes later. This
-keeps a copy, so that `edits.py` does not have to prove the crate a third time; without the copy it does.
+keeps a copy, with which `edits.py` begins; without one it proves no function but those that are edited.
 
 The output is passed on as it arrives. If the gate fails, its lines on each failure are repeated at the end,
 below the table, for those who see only the end of a log. The costs of the most expensive crates, their sum and the number of edits,
-or the failures, are also left in `out/gate.txt`.
+or the failures, are also left in `out/gate.txt`; while the gate runs, it has the costs so far.
 """
 import collections
 import contextlib
@@ -131,6 +131,7 @@ class Watch(threading.Thread):
                 told = time.monotonic()
                 names = sorted("%s (%s)" % task for task in at if task[0])
                 print("gate: at %s; %.0f processor minutes so far" % (", ".join(names) or "the start", self.total() / 60), flush=True)
+                leave([*rows_left(costs(self.table(), self.total())), "not at its end yet"])
 
     def total(self):
         return sum(seconds for _, seconds in list(self.seconds.values()))
@@ -155,6 +156,10 @@ def costs(table, total):
         lines.append("  %-24s %7.1f %7.1f %7.1f %7.1f%s" % (crate, *(parts[it] / 60 for it in PARTS), spent, over))
     sums = [sum(parts[it] for parts in table.values()) / 60 for it in PARTS]
     return [*lines, "  %-24s %7.1f %7.1f %7.1f %7.1f" % ("all", *sums, total / 60)]
+
+
+def rows_left(lines):
+    return [*lines[: 2 + ROWS_LEFT], lines[-1]]
 
 
 def leave(lines):
@@ -197,7 +202,7 @@ def main():
     shutil.rmtree(SEEDS, ignore_errors=True)
     lines = costs(watch.table(), watch.total())
     print("\n".join(lines))
-    left = [*lines[: 2 + ROWS_LEFT], lines[-1]]
+    left = rows_left(lines)
     if status:
         failed = ["what failed:", *("  " + line[:300] for line in failures_of(said))]
         print("\n".join(failed))
