@@ -9,39 +9,53 @@ use relay_commands::outgoing::Outgoing;
 use relay_commands::refuse_list::{ListFault, refuse_list};
 use relay_index::{Index, Script};
 use std::alloc::{AllocError, Global};
+use std::mem;
+use std::process::Abort;
 
 fn stream_once(alloc: Global, input: &[u8]) -> Option<MemStream> {
     MemStream::new(alloc, input.to_vec(alloc).ok()?, 1_000, 20, 0).ok()
 }
 
 fn stream_of(alloc: Global, input: &[u8]) -> Option<MemStream> {
-    stream_once(alloc, input).or_else(|| stream_once(alloc, input))
+    match stream_once(alloc, input) {
+        None => stream_once(alloc, input),
+        made => made,
+    }
 }
 
-// The result of `lines` for two operations, and what it wrote.
-fn lines_once(alloc: Global) -> Option<(Result<u64, LinesFault>, MemStream)> {
+// Whether `lines` writes two operations. `Err`: it was refused, with whether it wrote a prefix of them.
+fn run_lines(alloc: Global, reader: &mut MemStream, writer: &mut MemStream) -> Result<bool, bool> {
+    match lines(alloc, reader, writer, None, 1) {
+        Ok(count) => Ok(count == 2 && writer.written() == lines::TWO_LINES),
+        Err(fault) => {
+            Err(fault == LinesFault::Memory && lines::TWO_LINES.starts_with(writer.written()))
+        }
+    }
+}
+
+fn lines_once(alloc: Global) -> Option<Result<bool, bool>> {
     let mut reader = stream_of(alloc, lines::TWO)?;
-    let mut writer = stream_of(alloc, b"")?;
-    let found = lines(alloc, &mut reader, &mut writer, None, 1);
-    Some((found, writer))
+    let Some(mut writer) = stream_of(alloc, b"") else {
+        mem::forget(reader);
+        return None;
+    };
+    let found = run_lines(alloc, &mut reader, &mut writer);
+    mem::forget((reader, writer));
+    Some(found)
 }
 
 // Whether two operations are written, by a second run if the first was refused after it had written
 // a prefix of them.
-fn writes_lines(alloc: Global) -> Option<bool> {
-    let (found, writer) = lines_once(alloc)?;
-    if found.is_ok() {
-        return Some(found == Ok(2) && writer.written() == lines::TWO_LINES);
+fn writes_lines(alloc: Global) -> bool {
+    match lines_once(alloc) {
+        Some(Err(front)) => front && lines_once(alloc) == Some(Ok(true)),
+        found => found == Some(Ok(true)),
     }
-    let front = lines::TWO_LINES.starts_with(writer.written());
-    let (again, writer) = lines_once(alloc)?;
-    let whole = again == Ok(2) && writer.written() == lines::TWO_LINES;
-    Some(found == Err(LinesFault::Memory) && front && whole)
 }
 
 #[test]
 fn refused_lines(rt: HostRuntime) {
-    assert!(rt; writes_lines(rt.alloc()) == Some(true));
+    assert!(rt; writes_lines(rt.alloc()));
 }
 
 fn script_of(alloc: Global) -> Option<Script> {
@@ -51,29 +65,40 @@ fn script_of(alloc: Global) -> Option<Script> {
     }
 }
 
-// The result of `apply` for a body whose second item is refused, and what it wrote.
-fn apply_once(alloc: Global) -> Option<(Result<(), ApplyFault>, MemStream)> {
-    let script = script_of(alloc)?;
-    let mut reader = stream_of(alloc, apply::TWO)?;
-    let mut writer = stream_of(alloc, b"")?;
-    let found = apply(alloc, &mut reader, &mut writer, Index::new(alloc), script);
-    Some((found, writer))
+// Whether `apply` serves a body whose second item is refused. `Err`: it was refused, with whether it
+// wrote nothing.
+fn run_apply(
+    alloc: Global,
+    reader: &mut MemStream,
+    writer: &mut MemStream,
+    script: Script,
+) -> Result<bool, bool> {
+    match apply(alloc, reader, writer, Index::new(alloc), script) {
+        Ok(()) => Ok(writer.written() == apply::SECOND_REFUSED),
+        Err(fault) => Err(fault == ApplyFault::Memory && writer.written().is_empty()),
+    }
+}
+
+fn apply_once(rt: &impl Abort, alloc: Global) -> Result<bool, bool> {
+    let script = script_of(alloc).expect(rt, "a script");
+    let mut reader = stream_of(alloc, apply::TWO).expect(rt, "a stream");
+    let mut writer = stream_of(alloc, b"").expect(rt, "a stream");
+    let found = run_apply(alloc, &mut reader, &mut writer, script);
+    mem::forget((reader, writer));
+    found
 }
 
 // Whether a body is served, by a second run if the first was refused before anything was written.
-fn applies(alloc: Global) -> Option<bool> {
-    let (found, writer) = apply_once(alloc)?;
-    if found.is_ok() {
-        return Some(writer.written() == apply::SECOND_REFUSED);
+fn applies(rt: &impl Abort, alloc: Global) -> bool {
+    match apply_once(rt, alloc) {
+        Err(silent) => silent && apply_once(rt, alloc) == Ok(true),
+        found => found == Ok(true),
     }
-    let refused = found == Err(ApplyFault::Memory) && writer.written().is_empty();
-    let (again, writer) = apply_once(alloc)?;
-    Some(refused && again.is_ok() && writer.written() == apply::SECOND_REFUSED)
 }
 
 #[test]
 fn refused_bodies(rt: HostRuntime) {
-    assert!(rt; applies(rt.alloc()) == Some(true));
+    assert!(rt; applies(&rt, rt.alloc()));
 }
 
 // Whether a body is read as it is, or why it is not.
@@ -126,16 +151,26 @@ const LINE: &[u8] =
 const GATHERED: &[u8] =
     b"{\"delete\":{\"_id\":\"a document of more than thirty-eight bytes\",\"_index\":\"b\",\"version\":1,\"version_type\":\"external\"}}\na line of more bytes than the buffer had room for after the first write was added\n";
 
+fn write_of(rt: &impl Abort, alloc: Global) -> Write {
+    match write_once(alloc) {
+        Some(write) => write,
+        None => write_once(alloc).expect(rt, "a write"),
+    }
+}
+
 // Whether lines are gathered, each once, and written.
-fn gathers(alloc: Global) -> Option<bool> {
-    let write = write_once(alloc).or_else(|| write_once(alloc))?;
-    let mut writer = stream_of(alloc, b"")?;
-    let mut outgoing = Outgoing::new(alloc);
-    let added = adds(&mut outgoing, alloc, &write) && adds_line(&mut outgoing, LINE);
-    Some(added && outgoing.flush(&mut writer).is_ok() && writer.written() == GATHERED)
+fn gathers(alloc: Global, outgoing: &mut Outgoing, write: &Write, writer: &mut MemStream) -> bool {
+    adds(outgoing, alloc, write)
+        && adds_line(outgoing, LINE)
+        && outgoing.flush(writer).is_ok()
+        && writer.written() == GATHERED
 }
 
 #[test]
 fn refused_outgoing(rt: HostRuntime) {
-    assert!(rt; gathers(rt.alloc()) == Some(true));
+    let write = write_of(&rt, rt.alloc());
+    let mut writer = stream_of(rt.alloc(), b"").expect(&rt, "a stream");
+    let mut outgoing = Outgoing::new(rt.alloc());
+    assert!(rt; gathers(rt.alloc(), &mut outgoing, &write, &mut writer));
+    mem::forget((write, writer, outgoing));
 }

@@ -7,5 +7,3 @@ mod calls;
 mod desk;
 #[cfg(test)]
 mod refusals;
-#[cfg(test)]
-mod sequences;

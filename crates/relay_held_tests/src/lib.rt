@@ -7,7 +7,3 @@ mod calls;
 mod desk;
 #[cfg(test)]
 mod refusals;
-#[cfg(test)]
-mod rows;
-#[cfg(test)]
-mod sequences;

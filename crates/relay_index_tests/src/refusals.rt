@@ -2,7 +2,9 @@
 //! says what was run, and the call succeeds when it is repeated.
 use relay_action::{Action, DocKey, Write};
 use relay_index::{Choice, Index, Script};
+use relay_results::ItemDone;
 use std::alloc::{AllocError, Global};
+use std::mem;
 
 /// Ids and sources that are too long to be stored in the value itself.
 const IDS: [&str; 3] = [
@@ -12,83 +14,109 @@ const IDS: [&str; 3] = [
 ];
 
 fn write_once(alloc: Global, id: &str, version: u64) -> Option<Write> {
+    let Ok(key) = DocKey::new(alloc, "books", id) else {
+        return None;
+    };
+    let Ok(action) = Action::index(alloc, id) else {
+        mem::forget(key);
+        return None;
+    };
     Some(Write {
-        key: DocKey::new(alloc, "books", id).ok()?,
+        key,
         version,
-        action: Action::index(alloc, id).ok()?,
+        action,
     })
 }
 
 fn write_of(alloc: Global, id: &str, version: u64) -> Option<Write> {
-    write_once(alloc, id, version).or_else(|| write_once(alloc, id, version))
+    match write_once(alloc, id, version) {
+        None => write_once(alloc, id, version),
+        made => made,
+    }
+}
+
+// Whether a write was applied, or would be. `None`: the call was refused.
+fn is_applied(done: Result<ItemDone, AllocError>) -> Option<bool> {
+    match done {
+        Ok(done) => Some(done.status < 300),
+        Err(AllocError) => None,
+    }
 }
 
 // Whether a write is said to be applied, by a second call if the first was refused.
 fn foretells(index: &Index, write: &Write) -> bool {
-    match index.preview(write, Choice::Run) {
-        Ok(done) => done.status < 300,
-        Err(AllocError) => index
-            .preview(write, Choice::Run)
-            .is_ok_and(|done| done.status < 300),
+    match is_applied(index.preview(write, Choice::Run)) {
+        None => is_applied(index.preview(write, Choice::Run)) == Some(true),
+        told => told == Some(true),
     }
 }
 
 // Whether a write is applied, by a second call if the first was refused and left the index as it was.
-fn applies(index: &mut Index, write: &Write) -> bool {
-    if !foretells(index, write) {
-        return false;
-    }
+fn runs_one(index: &mut Index, write: &Write) -> bool {
     let (highest, count) = (index.highest(), index.applied(&write.key).len());
-    match index.run(write, Choice::Run) {
-        Ok(done) => done.status < 300,
-        Err(AllocError) => {
+    match is_applied(index.run(write, Choice::Run)) {
+        None => {
             index.highest() == highest
                 && index.applied(&write.key).len() == count
-                && index
-                    .run(write, Choice::Run)
-                    .is_ok_and(|done| done.status < 300)
+                && is_applied(index.run(write, Choice::Run)) == Some(true)
         }
+        told => told == Some(true),
+    }
+}
+
+fn applies(index: &mut Index, write: Option<Write>) -> bool {
+    match &write {
+        Some(write) => foretells(index, write) && runs_one(index, write),
+        None => false,
     }
 }
 
 // Writes each document twice, each time with a higher version.
-fn fills(alloc: Global, index: &mut Index) -> Option<bool> {
-    let mut version = 0u64;
+fn fills(alloc: Global, index: &mut Index) -> bool {
     let mut good = true;
-    for _ in 0..2u64 {
-        for id in IDS {
-            version = version.saturating_add(1);
-            good = applies(index, &write_of(alloc, id, version)?) && good;
+    for version in 0..6usize {
+        good = applies(index, write_of(alloc, IDS[version % 3], version as u64 + 1)) && good;
+    }
+    good
+}
+
+// Whether a document has two writes, the last of them with one of the last three versions.
+fn is_twice(index: &Index, key: &DocKey) -> bool {
+    index.applied(key).len() == 2
+        && index.version(key).unwrap_or(0) > 3
+        && index.source(key) == Some(key.id())
+}
+
+// Whether each document is so.
+fn is_filled(index: &Index, keys: &[DocKey]) -> bool {
+    for key in keys {
+        if !is_twice(index, key) {
+            return false;
         }
     }
-    Some(good)
+    keys.len() == 3
 }
 
-// Whether each document has two writes, the last of them with one of the last three versions.
-fn is_filled(index: &Index, keys: &[DocKey]) -> bool {
-    let same = keys.iter().all(|key| index.applied(key).len() == 2
-        && index.version(key).is_some_and(|version| version > 3)
-        && index.source(key) == Some(key.id()));
-    same && keys.len() == 3
-}
-
-fn keys_of(alloc: Global, index: &Index) -> Option<Vec<DocKey>> {
+fn keys_once(alloc: Global, index: &Index) -> Result<bool, AllocError> {
     match index.keys(alloc) {
-        Ok(keys) => Some(keys),
-        Err(AllocError) => index.keys(alloc).ok(),
+        Ok(keys) => Ok(is_filled(index, &keys)),
+        Err(AllocError) => Err(AllocError),
     }
 }
 
-fn runs(alloc: Global) -> Option<bool> {
-    let mut index = Index::new(alloc);
-    let good = fills(alloc, &mut index)?;
-    let keys = keys_of(alloc, &index)?;
-    Some(good && is_filled(&index, &keys))
+// The same, with the documents by a second call if the first was refused.
+fn has_keys(alloc: Global, index: &Index) -> bool {
+    match keys_once(alloc, index) {
+        Err(AllocError) => keys_once(alloc, index) == Ok(true),
+        told => told == Ok(true),
+    }
 }
 
 #[test]
 fn refused_runs(rt: HostRuntime) {
-    assert!(rt; runs(rt.alloc()) == Some(true));
+    let mut index = Index::new(rt.alloc());
+    assert!(rt; fills(rt.alloc(), &mut index) && has_keys(rt.alloc(), &index));
+    mem::forget(index);
 }
 
 // Adds the refusal of an item to the script, by a second call if the first was refused.
@@ -102,18 +130,28 @@ fn notes(script: &mut Script, place: u64) -> bool {
 const BODY: &str =
     "{\"index\":{\"_index\":\"books\",\"_id\":\"the first document of more than thirty-eight bytes\",\"version\":1,\"version_type\":\"external\"}}\n{\"a\":\"a source of more than thirty-eight bytes\"}\n{\"index\":{\"_id\":\"the second document of more than thirty-eight bytes\",\"_index\":\"books\",\"version\":2,\"version_type\":\"external\"}}\n{\"a\":\"a source of more than thirty-eight bytes\"}\n{\"delete\":{\"_id\":\"the third document of more than thirty-eight \\\"bytes\\\"\",\"_index\":\"books\",\"version\":3,\"version_type\":\"external\"}}\n";
 
-// How many writes an index applied.
-fn count(alloc: Global, index: &Index) -> Option<u64> {
+fn count_of(index: &Index, keys: &[DocKey]) -> u64 {
     let mut count = 0u64;
-    for key in &index.keys(alloc).ok()? {
+    for key in keys {
         count = count.saturating_add(index.applied(key).len() as u64);
     }
-    Some(count)
+    count
+}
+
+// How many writes an index applied.
+fn count(alloc: Global, index: &Index) -> Option<u64> {
+    match index.keys(alloc) {
+        Ok(keys) => Some(count_of(index, &keys)),
+        Err(AllocError) => None,
+    }
 }
 
 // The same, by a second call if the first was refused.
 fn count_again(alloc: Global, index: &Index) -> Option<u64> {
-    count(alloc, index).or_else(|| count(alloc, index))
+    match count(alloc, index) {
+        None => count(alloc, index),
+        found => found,
+    }
 }
 
 // The status with which a body is served, by a second call if an allocation failed and the fault said
@@ -135,7 +173,9 @@ fn serves(alloc: Global, body: &str, status: u16, applied: u64) -> bool {
     let mut index = Index::new(alloc);
     let mut script = Script::new(alloc);
     let told = status_of(alloc, &mut index, &mut script, body);
-    told == Some(status) && count_again(alloc, &index) == Some(applied)
+    let good = told == Some(status) && count_again(alloc, &index) == Some(applied);
+    mem::forget((index, script));
+    good
 }
 
 #[test]
@@ -168,7 +208,9 @@ fn serves_others(alloc: Global) -> bool {
     let mut script = Script::new(alloc);
     let good = notes_others(&mut script);
     let ran = ran_of(alloc, &mut index, &mut script);
-    good && count_again(alloc, &index) == Some(ran.min(1))
+    let counted = count_again(alloc, &index) == Some(ran.min(1));
+    mem::forget((index, script));
+    good && counted
 }
 
 #[test]

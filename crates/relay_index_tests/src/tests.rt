@@ -3,9 +3,7 @@ ghost use Rattle.relay_index.specs.Choices.{MayChoose};
 
 use relay_action::{Action, DocKey, Write};
 use relay_index::{Choice, Index, Script, may_refuse};
-use relay_results::{
-    DoneResult, ErrorDetail, ItemDone, Outcome, VersionConflict, read_reply, write_reply,
-};
+use relay_results::{DoneResult, VersionConflict};
 use std::process::Abort;
 
 /// The id, the version and the source of a write to a document of index `b`; a source of `None` is
@@ -192,59 +190,6 @@ fn documents_in_order(rt: HostRuntime) {
     assert!(rt; has_keys(&rt, &index, IN_ORDER));
 }
 
-// The item of a write of the document `2`.
-fn item_of(
-    rt: &(impl Abort + AllocGlobal),
-    index: &mut Index,
-    version: u64,
-    source: Option<&str>,
-) -> ItemDone {
-    let write = write_of(rt, ("2", version, source));
-    index.run(&write, Choice::Run).expect(rt, "memory")
-}
-
-// What an outcome says of its error.
-fn detail_of(outcome: &Outcome) -> Option<&ErrorDetail> {
-    outcome.error.as_ref().map(|error| error.detail())
-}
-
-// Whether what was read is the outcome of an item.
-fn is_outcome(rt: &(impl Abort + AllocGlobal), item: &ItemDone, read: &Outcome) -> bool {
-    let told = item.outcome(rt.alloc()).expect(rt, "memory");
-    let named = read.kind == told.kind && read.id == told.id;
-    named && read.status == told.status && detail_of(read) == detail_of(&told)
-}
-
-// Whether what was read is the outcome of each item.
-fn are_outcomes(rt: &(impl Abort + AllocGlobal), items: &[ItemDone], read: &[Outcome]) -> bool {
-    let mut good = items.len() == read.len();
-    for (item, outcome) in items.iter().zip(read) {
-        good = good && is_outcome(rt, item, outcome);
-    }
-    good
-}
-
-// Whether what is read from the reply to three items of an index is the outcome of each: a write, a
-// delete with its version, and a delete with the next one.
-fn reads_outcomes(rt: &(impl Abort + AllocGlobal), index: &mut Index) -> bool {
-    let items = [
-        item_of(rt, index, 5, Some("{}")),
-        item_of(rt, index, 5, None),
-        item_of(rt, index, 6, None),
-    ];
-    let text = write_reply(rt.alloc(), 0, &items).expect(rt, "memory");
-    let read = read_reply(rt.alloc(), text.as_bytes()).expect(rt, "a reply");
-    are_outcomes(rt, &items, &read)
-}
-
-#[test]
-fn outcomes(rt: HostRuntime) {
-    assert!(rt; reads_outcomes(&rt, &mut Index::new(rt.alloc())));
-    let mut stating = Index::new(rt.alloc());
-    stating.state_versions();
-    assert!(rt; reads_outcomes(&rt, &mut stating));
-}
-
 // The versions that the index states for a delete of the document `2` with this version, if it were
 // run, if it were refused, and then when it is run.
 fn states(
@@ -266,7 +211,7 @@ fn states(
 #[test]
 fn stated_versions(rt: HostRuntime) {
     let mut index = Index::new(rt.alloc());
-    item_of(&rt, &mut index, 5, Some("{}"));
+    run(&rt, &mut index, ("2", 5, Some("{}")), Choice::Run);
     assert!(rt; states(&rt, &mut index, 3) == [None, None, None]);
     index.state_versions();
     let versions = Some(VersionConflict {

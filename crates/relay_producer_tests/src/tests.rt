@@ -1,17 +1,16 @@
-//! What producers and the control send, and what they find gone. Each run is tried once more if an
-//! allocation fails.
+//! What producers and the control send, and what they find gone.
 ghost use Rattle.std.specs.Prelude.{◌<◌, ◌≤◌};
 
 use crate::lanes::{Lanes, Said, document, make, takes};
 use relay_action::{Action, OpName};
 use relay_producer::{Control, Producer, PutFaultKind, Receipt};
 use relay_queue::LaneTake;
-use std::alloc::{AllocError, Global};
+use std::alloc::Global;
+use std::process::Abort;
 use std::sync::Wait;
-use std::test::Fail;
-use std::thread;
 use std::thread::Threads;
 use std::time::{Clock, Duration};
+use std::{mem, thread};
 
 // The ids of 8 documents of the index `books`, and the lane of each among 8, computed independently
 // with FNV-1a. With two lanes the even ids belong to lane 0.
@@ -119,7 +118,7 @@ struct Senders {
 }
 
 // Lanes of 16 places each, and their senders.
-fn start(alloc: Global, lanes: u32) -> Result<(Vec<LaneTake>, Senders), AllocError>
+fn start(rt: &impl Abort, alloc: Global, lanes: u32) -> (Vec<LaneTake>, Senders)
     requires { (0 < lanes) × (lanes ≤ 8) }
 {
     let Lanes {
@@ -127,18 +126,13 @@ fn start(alloc: Global, lanes: u32) -> Result<(Vec<LaneTake>, Senders), AllocErr
         first,
         second,
         control,
-    } = make(alloc, lanes, 16)?;
-    let first = Producer::new(alloc, 0, 0, first)?;
-    let second = Producer::new(alloc, 0, 1, second)?;
-    let control = Control::new(alloc, 2, control)?;
-    Ok((
-        takes,
-        Senders {
-            first,
-            second,
-            control,
-        },
-    ))
+    } = make(alloc, lanes, 16).expect(rt, "memory");
+    let senders = Senders {
+        first: Producer::new(alloc, 0, 0, first).expect(rt, "memory"),
+        second: Producer::new(alloc, 0, 1, second).expect(rt, "memory"),
+        control: Control::new(alloc, 2, control).expect(rt, "memory"),
+    };
+    (takes, senders)
 }
 
 // Whether two producers put to each of 8 lanes, one in order and one in reverse, the control sends
@@ -160,35 +154,34 @@ fn send_to_all<R: Wait>(rt: &R, alloc: Global, senders: Senders) -> bool {
 }
 
 // Whether all do, and each taker takes its part.
-fn send_to_eight<R: Wait>(rt: &R, alloc: Global) -> Result<bool, AllocError> {
-    let (mut takes, senders) = start(alloc, 8)?;
-    let sent = send_to_all(rt, alloc, senders);
-    Ok(sent && takes_all(rt, &mut takes))
+fn send_to_eight<R: Wait + Abort>(rt: &R, alloc: Global) -> bool {
+    let (mut takes, senders) = start(rt, alloc, 8);
+    let good = send_to_all(rt, alloc, senders) && takes_all(rt, &mut takes);
+    mem::forget(takes);
+    good
 }
 
 #[test]
-fn two_producers_and_the_control(rt: HostRuntime) -> Result<(), Fail> {
-    let good = match send_to_eight(&rt, rt.alloc()) {
-        Ok(good) => good,
-        Err(AllocError) => send_to_eight(&rt, rt.alloc())?,
-    };
-    assert!(rt; good);
-    Ok(())
+fn two_producers_and_the_control(rt: HostRuntime) {
+    assert!(rt; send_to_eight(&rt, rt.alloc()));
+}
+
+fn name_of(number: u64) -> OpName {
+    OpName {
+        epoch: 0,
+        producer: 0,
+        number,
+    }
 }
 
 // Whether a producer finds the second of two lanes gone, and still puts to the first one.
 fn goes_round<R: Wait>(rt: &R, alloc: Global, producer: &mut Producer) -> bool {
-    let name = |number: u64| OpName {
-        epoch: 0,
-        producer: 0,
-        number,
-    };
     producer.gone() == 0
         && finds_gone(rt, alloc, producer, "1")
         && producer.gone() == 1
-        && puts(rt, alloc, producer, name(1), "0", 0)
+        && puts(rt, alloc, producer, name_of(1), "0", 0)
         && finds_gone(rt, alloc, producer, "3")
-        && puts(rt, alloc, producer, name(2), "2", 0)
+        && puts(rt, alloc, producer, name_of(2), "2", 0)
         && producer.gone() == 1
 }
 
@@ -222,24 +215,21 @@ const FIRST_LANE: [(u32, u64, Said); 7] = [
 
 // Whether they do if the taker of the second lane is dropped, and the other one takes what was
 // sent.
-fn send_to_one_of_two<R: Wait>(rt: &R, alloc: Global) -> Result<bool, AllocError> {
-    let (mut takes, senders) = start(alloc, 2)?;
+fn send_to_one_of_two<R: Wait + Abort>(rt: &R, alloc: Global) -> bool {
+    let (mut takes, senders) = start(rt, alloc, 2);
     let dropped = takes.pop().is_some();
     let found = find_gone(rt, alloc, senders);
-    Ok(match takes.first_mut() {
+    let good = match takes.first_mut() {
         Some(take) => dropped && found && takes_rows(rt, take, &FIRST_LANE),
         None => false,
-    })
+    };
+    mem::forget(takes);
+    good
 }
 
 #[test]
-fn a_lane_whose_taker_is_dropped(rt: HostRuntime) -> Result<(), Fail> {
-    let good = match send_to_one_of_two(&rt, rt.alloc()) {
-        Ok(good) => good,
-        Err(AllocError) => send_to_one_of_two(&rt, rt.alloc())?,
-    };
-    assert!(rt; good);
-    Ok(())
+fn a_lane_whose_taker_is_dropped(rt: HostRuntime) {
+    assert!(rt; send_to_one_of_two(&rt, rt.alloc()));
 }
 
 // How many operations the waiting producer puts.
@@ -259,44 +249,30 @@ fn take_late<R: Wait + Clock>(rt: &R, take: &mut LaneTake) -> bool {
 fn put_and_close<R: Wait>(rt: &R, alloc: Global, mut producer: Producer) -> bool {
     let mut good = true;
     for turn in 0..COUNT {
-        let name = OpName {
-            epoch: 0,
-            producer: 0,
-            number: turn + 1,
-        };
-        good = good && puts(rt, alloc, &mut producer, name, "0", 0);
+        good = good && puts(rt, alloc, &mut producer, name_of(turn + 1), "0", 0);
     }
     good && producer.close(rt).gone() == 0
 }
 
 // Whether a thread takes all that was put by a producer that had to wait at a queue of one place.
-fn waits<R: Threads + Wait + Clock + Copy + Send + 'static>(
-    rt: R,
-    alloc: Global,
-) -> Result<bool, AllocError> {
+fn waits<R>(rt: R, alloc: Global) -> bool
+where
+    R: Threads + Wait + Clock + Abort + Copy + Send + 'static,
+{
     let Lanes {
         mut takes,
         first,
         second: _,
         control: _,
-    } = make(alloc, 1, 1)?;
-    let producer = Producer::new(alloc, 0, 0, first)?;
-    let Some(mut take) = takes.pop() else {
-        return Ok(false);
-    };
-    let Ok(child) = thread::spawn(&rt, move || take_late(&rt, &mut take)) else {
-        return Err(AllocError);
-    };
+    } = make(alloc, 1, 1).expect(&rt, "memory");
+    let producer = Producer::new(alloc, 0, 0, first).expect(&rt, "memory");
+    let mut take = takes.pop().expect(&rt, "a taker");
+    let child = thread::spawn(&rt, move || take_late(&rt, &mut take)).expect(&rt, "a thread");
     let good = put_and_close(&rt, alloc, producer);
-    Ok(child.join(&rt) && good)
+    child.join(&rt) && good
 }
 
 #[test]
-fn a_put_to_a_full_queue_waits(rt: HostRuntime) -> Result<(), Fail> {
-    let good = match waits(rt, rt.alloc()) {
-        Ok(good) => good,
-        Err(AllocError) => waits(rt, rt.alloc())?,
-    };
-    assert!(rt; good);
-    Ok(())
+fn a_put_to_a_full_queue_waits(rt: HostRuntime) {
+    assert!(rt; waits(rt, rt.alloc()));
 }

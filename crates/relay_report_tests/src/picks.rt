@@ -227,15 +227,19 @@ fn operations_of_an_input(rt: HostRuntime) {
     }
 }
 
-// Whether `pick` ends with a failed call, and what it wrote is a prefix of what it would write.
-fn fails(rt: &(impl Abort + AllocGlobal), fails: (u64, u64)) -> bool {
-    let (found, writer) = picked(rt, &[2, 3], Some("b"), 20, fails);
-    let kind = match found {
+// Whether a call failed: the read or the write with these numbers, of which one is 0.
+fn is_failed(found: Result<u64, PickFault>, fails: (u64, u64)) -> bool {
+    match found {
         Err(PickFault::Input(fault)) => fails.0 > 0 && fault.kind == LineKind::Read,
         Err(PickFault::Write) => fails.1 > 0,
         _ => false,
-    };
-    kind && LAST_TWO.starts_with(writer.written())
+    }
+}
+
+// Whether `pick` ends with a failed call, and what it wrote is a prefix of what it would write.
+fn fails(rt: &(impl Abort + AllocGlobal), fails: (u64, u64)) -> bool {
+    let (found, writer) = picked(rt, &[2, 3], Some("b"), 20, fails);
+    is_failed(found, fails) && LAST_TWO.starts_with(writer.written())
 }
 
 #[test]

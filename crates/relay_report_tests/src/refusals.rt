@@ -3,12 +3,14 @@
 use relay_action::{DocKey, MemStream, OpName, Text};
 use relay_core::Report;
 use relay_report::{
-    LastLine, Named, PickFault, ReportFault, append_report, current_names, last_line, pick,
+    Kept, LastLine, Named, PickFault, ReportFault, append_report, current_names, last_line, pick,
     read_name, read_names, report_text,
 };
 use relay_results::Cause;
 use relay_words::{add_cause, add_document, add_name, add_number, add_spaced};
 use std::alloc::{AllocError, Global};
+use std::mem;
+use std::process::Abort;
 
 const NAME: OpName = OpName {
     epoch: 7,
@@ -22,20 +24,30 @@ const KIND: &str = "a_kind_of_errors_of_more_than_thirty_eight_bytes";
 
 const REASON: &str = "a reason of more than thirty-eight bytes";
 
-fn report_once(alloc: Global) -> Option<Report> {
-    Some(Report {
-        name: NAME,
-        key: DocKey::new(alloc, "books", ID).ok()?,
-        cause: Cause::Refused {
-            status: 400,
-            kind: Text::new(alloc, KIND).ok()?,
-            reason: Some(Text::new(alloc, REASON).ok()?),
-        },
-    })
+fn text_of(rt: &impl Abort, alloc: Global, text: &str) -> Text {
+    match Text::new(alloc, text) {
+        Ok(made) => made,
+        Err(AllocError) => Text::new(alloc, text).expect(rt, "memory"),
+    }
 }
 
-fn report_of(alloc: Global) -> Option<Report> {
-    report_once(alloc).or_else(|| report_once(alloc))
+fn key_of(rt: &impl Abort, alloc: Global) -> DocKey {
+    match DocKey::new(alloc, "books", ID) {
+        Ok(key) => key,
+        Err(_) => DocKey::new(alloc, "books", ID).expect(rt, "a key"),
+    }
+}
+
+fn report_of(rt: &impl Abort, alloc: Global) -> Report {
+    Report {
+        name: NAME,
+        key: key_of(rt, alloc),
+        cause: Cause::Refused {
+            status: 400,
+            kind: text_of(rt, alloc, KIND),
+            reason: Some(text_of(rt, alloc, REASON)),
+        },
+    }
 }
 
 /// A byte, and the line of the report.
@@ -53,32 +65,38 @@ fn appends(alloc: Global, text: &mut Vec<u8>, report: &Report) -> bool {
     }
 }
 
-fn has_line(alloc: Global, report: &Report) -> Option<bool> {
-    let mut text = BEGUN.to_vec(alloc).or_else(|_| BEGUN.to_vec(alloc)).ok()?;
-    let good = appends(alloc, &mut text, report);
-    Some(good && text.as_slice() == APPENDED)
-}
-
-fn lines_of(alloc: Global, reports: &[Report]) -> Option<Vec<u8>> {
-    match report_text(alloc, reports) {
-        Ok(text) => Some(text),
-        Err(AllocError) => report_text(alloc, reports).ok(),
+fn begun(rt: &impl Abort, alloc: Global) -> Vec<u8> {
+    match BEGUN.to_vec(alloc) {
+        Ok(text) => text,
+        Err(AllocError) => BEGUN.to_vec(alloc).expect(rt, "memory"),
     }
 }
 
-fn has_lines(alloc: Global, reports: &[Report]) -> Option<bool> {
-    let lines = lines_of(alloc, reports)?;
-    Some(APPENDED.get(BEGUN.len()..) == Some(lines.as_slice()))
+fn has_line(rt: &impl Abort, alloc: Global, report: &Report) -> bool {
+    let mut text = begun(rt, alloc);
+    appends(alloc, &mut text, report) && text.as_slice() == APPENDED
 }
 
-fn writes(alloc: Global) -> Option<bool> {
-    let reports = [report_of(alloc)?];
-    Some(has_line(alloc, &reports[0])? && has_lines(alloc, reports.as_slice())?)
+fn lines_once(alloc: Global, reports: &[Report]) -> Result<bool, AllocError> {
+    match report_text(alloc, reports) {
+        Ok(text) => Ok(APPENDED.get(BEGUN.len()..) == Some(text.as_slice())),
+        Err(AllocError) => Err(AllocError),
+    }
+}
+
+// Whether the lines of reports are written, by a second call if the first was refused.
+fn has_lines(alloc: Global, reports: &[Report]) -> bool {
+    match lines_once(alloc, reports) {
+        Err(AllocError) => lines_once(alloc, reports) == Ok(true),
+        written => written == Ok(true),
+    }
 }
 
 #[test]
 fn refused_reports(rt: HostRuntime) {
-    assert!(rt; writes(rt.alloc()) == Some(true));
+    let reports = [report_of(&rt, rt.alloc())];
+    assert!(rt; has_line(&rt, rt.alloc(), &reports[0]) && has_lines(rt.alloc(), &reports));
+    mem::forget(reports);
 }
 
 const LINE: &[u8] =
@@ -111,7 +129,10 @@ fn stream_once(alloc: Global, input: &[u8]) -> Option<MemStream> {
 }
 
 fn stream_of(alloc: Global, input: &[u8]) -> Option<MemStream> {
-    stream_once(alloc, input).or_else(|| stream_once(alloc, input))
+    match stream_once(alloc, input) {
+        None => stream_once(alloc, input),
+        made => made,
+    }
 }
 
 /// The operations that the lines name.
@@ -162,14 +183,29 @@ const PICKED: &[u8] =
 
 // The result of picking the second and the third operation, and how many bytes are written, if they
 // are a prefix of the two.
+fn picked(
+    alloc: Global,
+    input: &mut MemStream,
+    writer: &mut MemStream,
+) -> Option<(Result<u64, PickFault>, usize)> {
+    let found = pick(alloc, NAMED, 0, input, None, writer);
+    let written = writer.written();
+    if PICKED.starts_with(written) {
+        Some((found, written.len()))
+    } else {
+        None
+    }
+}
+
 fn pick_once(alloc: Global) -> Option<(Result<u64, PickFault>, usize)> {
     let mut input = stream_of(alloc, INPUT)?;
-    let mut writer = stream_of(alloc, b"")?;
-    let found = pick(alloc, NAMED, 0, &mut input, None, &mut writer);
-    let written = writer.written();
-    PICKED
-        .starts_with(written)
-        .then_some((found, written.len()))
+    let Some(mut writer) = stream_of(alloc, b"") else {
+        mem::forget(input);
+        return None;
+    };
+    let found = picked(alloc, &mut input, &mut writer);
+    mem::forget((input, writer));
+    found
 }
 
 // Whether they are picked, by a second call if the first was refused after it had written a prefix
@@ -187,25 +223,39 @@ fn refused_picks(rt: HostRuntime) {
     assert!(rt; picks(rt.alloc()));
 }
 
+fn are_both(kept: &Kept) -> bool {
+    kept.names.as_slice() == NAMED && kept.found == 2 && kept.ends.len() == 1
+}
+
 // Whether the two are current and the input was read to its end. `None`: an allocation was refused.
 fn current_once(alloc: Global) -> Option<bool> {
-    let mut inputs = Vec::new(alloc);
-    inputs.push(stream_of(alloc, INPUT)?).ok()?;
-    let kept = current_names(alloc, NAMED, inputs, None).ok()?;
-    Some(kept.names.as_slice() == NAMED && kept.found == 2 && kept.ends.len() == 1)
+    let inputs = Vec::from_array(alloc, [stream_of(alloc, INPUT)?]).ok()?;
+    match current_names(alloc, NAMED, inputs, None) {
+        Ok(kept) => Some(are_both(&kept)),
+        Err(_) => None,
+    }
 }
 
 #[test]
 fn refused_current_names(rt: HostRuntime) {
-    let found = current_once(rt.alloc()).or_else(|| current_once(rt.alloc()));
-    assert!(rt; found == Some(true));
+    let alloc = rt.alloc();
+    let first = current_once(alloc);
+    assert!(rt; first == Some(true) || first.is_none() && current_once(alloc) == Some(true));
+}
+
+// How the lines end without their last line feed.
+fn ends(alloc: Global) -> Result<LastLine, AllocError> {
+    last_line(alloc, LINES.strip_suffix(b"\n").unwrap_or(b""))
 }
 
 #[test]
 fn refused_last_line(rt: HostRuntime) {
-    let alloc = rt.alloc();
-    let text = LINES.strip_suffix(b"\n").unwrap_or(b"");
-    let found = last_line(alloc, text).or_else(|_| last_line(alloc, text));
+    let first = ends(rt.alloc());
+    let found = if first.is_err() {
+        ends(rt.alloc())
+    } else {
+        first
+    };
     assert!(rt; found == Ok(LastLine::Unended));
 }
 
@@ -242,18 +292,17 @@ fn is_added(alloc: Global, part: u32, report: &Report, wanted: &[u8]) -> bool {
 }
 
 // Whether each part of a report is added as it is printed.
-fn are_added(alloc: Global) -> Option<bool> {
-    let report = report_of(alloc)?;
+fn are_added(alloc: Global, report: &Report) -> bool {
     let mut good = true;
-    let mut part = 0u32;
-    for wanted in PARTS {
-        good = is_added(alloc, part, &report, wanted) && good;
-        part = part.saturating_add(1);
+    for part in 0..5usize {
+        good = is_added(alloc, part as u32, report, PARTS[part]) && good;
     }
-    Some(good)
+    good
 }
 
 #[test]
 fn refused_parts(rt: HostRuntime) {
-    assert!(rt; are_added(rt.alloc()) == Some(true));
+    let report = report_of(&rt, rt.alloc());
+    assert!(rt; are_added(rt.alloc(), &report));
+    mem::forget(report);
 }

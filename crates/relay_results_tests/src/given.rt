@@ -4,10 +4,10 @@ use std::process::Abort;
 
 // Whether this is the reason that is kept of a body.
 fn gives(rt: &(impl Abort + AllocGlobal), body: &[u8], wanted: Option<&str>) -> bool {
-    match (read_refusal(rt.alloc(), body).expect(rt, "memory"), wanted) {
-        (Some(reason), Some(wanted)) => reason.as_str() == wanted,
-        (None, None) => true,
-        _ => false,
+    match read_refusal(rt.alloc(), body) {
+        Ok(Some(reason)) => wanted == Some(reason.as_str()),
+        Ok(None) => wanted.is_none(),
+        Err(_) => panic!(rt; "memory"),
     }
 }
 

@@ -1,5 +1,5 @@
 //! What an outcome keeps of an error's reason, and the stored version that it states.
-use relay_results::{ErrorDetail, number_of, read_reply};
+use relay_results::{ErrorDetail, Outcome, number_of, read_reply};
 use std::process::Abort;
 
 fn is_detail(error: &ErrorDetail, stored: Option<u64>, kept: Option<&str>) -> bool {
@@ -9,6 +9,16 @@ fn is_detail(error: &ErrorDetail, stored: Option<u64>, kept: Option<&str>) -> bo
         _ => false,
     };
     same && error.kind.as_str() == "t" && error.stored == stored
+}
+
+fn is_only(outcomes: &[Outcome], stored: Option<u64>, kept: Option<&str>) -> bool {
+    match outcomes {
+        [one] => match &one.error {
+            Some(error) => is_detail(error.detail(), stored, kept),
+            None => false,
+        },
+        _ => false,
+    }
 }
 
 // Whether the only entry of a reply with this reason, given as JSON, has an error of its type that
@@ -22,10 +32,8 @@ fn says(
     let text = format!(in rt.alloc();
         "{{\"errors\":true,\"items\":[{{\"index\":{{\"_id\":\"1\",\"status\":409,\"error\":{{\"type\":\"t\",\"reason\":{reason}}}}}}}]}}"
     ).expect(rt, "memory");
-    let mut outcomes = read_reply(rt.alloc(), text.as_bytes()).expect(rt, "a reply");
-    let outcome = outcomes.pop().expect(rt, "an entry");
-    let error = outcome.error.expect(rt, "an error").into_detail();
-    outcomes.is_empty() && is_detail(&error, stored, kept)
+    let outcomes = read_reply(rt.alloc(), text.as_bytes()).expect(rt, "a reply");
+    is_only(&outcomes, stored, kept)
 }
 
 // A reason as JSON, the stored version that it states, and the reason as it is kept.

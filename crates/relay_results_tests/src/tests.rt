@@ -1,10 +1,10 @@
-//! Reading and writing replies, matching, verdicts, and failed allocations.
-use relay_action::{Action, ActionFault, ActionKind, DocKey, Write};
+//! Reading and writing replies, matching, and verdicts.
+use relay_action::{Action, ActionKind, DocKey, Write};
 use relay_results::{
-    DoneResult, ErrorDetail, ItemDone, ItemVerdict, Outcome, ReplyFault, matches, read_reply,
-    verdict, write_reply,
+    DoneResult, ItemDone, ItemVerdict, Outcome, ReplyFault, matches, read_reply, verdict,
+    write_reply,
 };
-use std::alloc::{AllocError, Global};
+use std::alloc::Global;
 use std::process::Abort;
 
 // A write of the document with this id.
@@ -163,7 +163,7 @@ fn depth(rt: HostRuntime) {
     }
 }
 
-const ENTRIES: [(&str, u16, Option<&str>, bool); 10] = [
+const ENTRIES: &[(&str, u16, Option<&str>, bool)] = &[
     (
         "{\"items\":[{\"index\":{\"_id\":\"1\",\"status\":201}}]}",
         201,
@@ -226,28 +226,34 @@ const ENTRIES: [(&str, u16, Option<&str>, bool); 10] = [
     ),
 ];
 
-// Whether a reply has one entry, with this status and error.
-fn says_one(rt: &(impl Abort + AllocGlobal), text: &str, status: u16, error: Option<&str>) -> bool {
+// Whether this is one entry, with this status and error.
+fn is_one(outcomes: &[Outcome], status: u16, error: Option<&str>) -> bool {
+    match outcomes {
+        [one] => one.status == status && has_error(one, error),
+        _ => false,
+    }
+}
+
+// Whether a reply has such an entry, and matches a request if it should.
+fn says_one(
+    rt: &(impl Abort + AllocGlobal),
+    text: &str,
+    status: u16,
+    error: Option<&str>,
+    request: &[Write],
+    fit: bool,
+) -> bool {
     let outcomes = entries_of(rt, text);
-    outcomes.len() == 1 && outcomes[0].status == status && has_error(&outcomes[0], error)
+    is_one(&outcomes, status, error) && matches(&outcomes, request) == fit
 }
 
 // The content of a single entry, and whether the reply matches an index write of id `1`.
 #[test]
 fn entries(rt: HostRuntime) {
     let request = [index_write(&rt)];
-    for (text, status, error, fit) in &ENTRIES {
-        assert!(rt; says_one(&rt, *text, *status, *error));
-        assert!(rt; fits(&rt, *text, &request) == *fit);
+    for (text, status, error, fit) in ENTRIES {
+        assert!(rt; says_one(&rt, *text, *status, *error, &request, *fit));
     }
-}
-
-// A reply without entries matches no request that has items.
-#[test]
-fn no_entries(rt: HostRuntime) {
-    let request = [index_write(&rt)];
-    assert!(rt; !fits(&rt, "{\"items\":[]}", &request));
-    assert!(rt; fits(&rt, "{\"items\":[]}", &[]));
 }
 
 // A reply in the usual form to a delete of the document 1, in five parts.
@@ -260,7 +266,7 @@ const USUAL: [&str; 5] = [
 ];
 
 // The position of a part, its replacement, and the fault of that reply.
-const FORMS: [(usize, &str, Option<ReplyFault>); 16] = [
+const FORMS: &[(usize, &str, Option<ReplyFault>)] = &[
     (4, "]}", None),
     (
         1,
@@ -303,8 +309,22 @@ const FORMS: [(usize, &str, Option<ReplyFault>); 16] = [
     (4, ",]}", Some(ReplyFault::NotJson)),
 ];
 
-// Whether a reply with that part has this fault, or else one entry, a delete of the document 1 with
-// status 200 and no error.
+// Whether these are one entry, a delete of the document 1 with status 200 and no error.
+fn is_deletion(outcomes: &[Outcome]) -> bool {
+    match outcomes {
+        [one] => is_entry(one, ActionKind::Delete, "1", 200, None),
+        _ => false,
+    }
+}
+
+fn says_deletion(alloc: Global, text: &[u8]) -> Result<bool, ReplyFault> {
+    match read_reply(alloc, text) {
+        Ok(outcomes) => Ok(is_deletion(&outcomes)),
+        Err(fault) => Err(fault),
+    }
+}
+
+// Whether a reply with that part has this fault, or else that entry.
 fn is_read(
     rt: &(impl Abort + AllocGlobal),
     place: usize,
@@ -314,13 +334,10 @@ fn is_read(
     let mut parts = USUAL;
     *parts.get_mut(place).expect(rt, "a part") = part;
     let text = parts.concat(rt.alloc()).expect(rt, "memory");
-    match read_reply(rt.alloc(), text.as_bytes()) {
-        Ok(outcomes) => {
-            fault.is_none()
-                && outcomes.len() == 1
-                && is_entry(&outcomes[0], ActionKind::Delete, "1", 200, None)
-        }
-        Err(found) => fault == Some(found),
+    let said = says_deletion(rt.alloc(), text.as_bytes());
+    match fault {
+        Some(fault) => said == Err(fault),
+        None => said == Ok(true),
     }
 }
 
@@ -328,9 +345,22 @@ fn is_read(
 // fault is found in both.
 #[test]
 fn forms_of_replies(rt: HostRuntime) {
-    for (place, part, fault) in &FORMS {
+    for (place, part, fault) in FORMS {
         assert!(rt; is_read(&rt, *place, *part, *fault));
     }
+}
+
+// An entry: its action, its document, its status and its error.
+type Entry = (ActionKind, &'static str, u16, Option<&'static str>);
+
+// Whether a reply has these entries.
+fn has_entries(rt: &(impl Abort + AllocGlobal), text: &str, wanted: &[Entry]) -> bool {
+    let outcomes = entries_of(rt, text);
+    let mut same = outcomes.len() == wanted.len();
+    for (outcome, (kind, id, status, error)) in outcomes.iter().zip(wanted) {
+        same = same && is_entry(outcome, *kind, *id, *status, *error);
+    }
+    same
 }
 
 // All entries of a reply in the usual form, in order.
@@ -343,11 +373,12 @@ fn entries_in_the_usual_form(rt: HostRuntime) {
         \"_shards\":{\"total\":2,\"successful\":2,\"failed\":0},\"_seq_no\":10,\"_primary_term\":1,\"status\":404}},\
         {\"index\":{\"_index\":\"c\",\"_type\":\"_doc\",\"_id\":\"3\",\"_version\":12345678901,\"result\":\"updated\",\
         \"_shards\":{\"total\":2,\"successful\":1,\"failed\":1},\"_seq_no\":11,\"_primary_term\":3,\"status\":200}}]}";
-    let outcomes = entries_of(&rt, text);
-    assert!(rt; outcomes.len() == 3);
-    assert!(rt; is_entry(&outcomes[0], ActionKind::Index, "1", 201, None));
-    assert!(rt; is_entry(&outcomes[1], ActionKind::Delete, "2", 404, None));
-    assert!(rt; is_entry(&outcomes[2], ActionKind::Index, "3", 200, None));
+    let wanted = [
+        (ActionKind::Index, "1", 201, None),
+        (ActionKind::Delete, "2", 404, None),
+        (ActionKind::Index, "3", 200, None),
+    ];
+    assert!(rt; has_entries(&rt, text, &wanted));
 }
 
 // A reply with the members that an OpenSearch node sends.
@@ -363,15 +394,17 @@ fn reply_of_a_node(rt: HostRuntime) {
         \"reason\":\"failed to parse\",\"caused_by\":{\"type\":\"illegal_argument_exception\",\"reason\":\"no\"}}}}]}";
     let conflict = Some("version_conflict_engine_exception");
     let mapping = Some("mapper_parsing_exception");
-    let outcomes = entries_of(&rt, text);
-    assert!(rt; outcomes.len() == 3);
-    assert!(rt; is_entry(&outcomes[0], ActionKind::Index, "1", 201, None));
-    assert!(rt; is_entry(&outcomes[1], ActionKind::Delete, "2", 409, conflict));
-    assert!(rt; is_entry(&outcomes[2], ActionKind::Index, "3", 400, mapping));
+    let wanted = [
+        (ActionKind::Index, "1", 201, None),
+        (ActionKind::Delete, "2", 409, conflict),
+        (ActionKind::Index, "3", 400, mapping),
+    ];
+    assert!(rt; has_entries(&rt, text, &wanted));
 }
 
 // A reply, and whether it matches an index write of id `1` and a delete of id `2`.
 const MATCHES: &[(&str, bool)] = &[
+    ("{\"items\":[]}", false),
     (
         "{\"items\":[{\"index\":{\"_id\":\"1\",\"status\":400}},{\"delete\":{\"_id\":\"2\",\"status\":404}}]}",
         true,
@@ -455,7 +488,7 @@ fn verdicts(rt: HostRuntime) {
 
 // A status, the sends, and the verdict on an error that states another version than the
 // operation's own.
-const OTHER_STORED: [(u16, u32, ItemVerdict); 5] = [
+const OTHER_STORED: &[(u16, u32, ItemVerdict)] = &[
     (409, 1, ItemVerdict::Conflict),
     (409, 2, ItemVerdict::Conflict),
     (409, 9, ItemVerdict::Conflict),
@@ -466,31 +499,11 @@ const OTHER_STORED: [(u16, u32, ItemVerdict); 5] = [
 #[test]
 fn verdicts_on_another_version(rt: HostRuntime) {
     for (status, sends, wanted) in OTHER_STORED {
-        assert!(rt; verdict(ActionKind::Index, status, true, false, sends, 1, 3) == wanted);
+        assert!(rt; verdict(ActionKind::Index, *status, true, false, *sends, 1, 3) == *wanted);
     }
 }
 
 // The result of an item of `b/2`.
-fn done_of(
-    alloc: Global,
-    kind: ActionKind,
-    status: u16,
-    became: DoneResult,
-    version: u64,
-    seq: u64,
-) -> Result<ItemDone, ActionFault> {
-    Ok(ItemDone {
-        key: DocKey::new(alloc, "b", "2")?,
-        kind,
-        status,
-        result: became,
-        version,
-        seq,
-        conflict: None,
-    })
-}
-
-// The same, where a failed allocation ends the test.
 fn item(
     rt: &(impl Abort + AllocGlobal),
     kind: ActionKind,
@@ -499,25 +512,18 @@ fn item(
     version: u64,
     seq: u64,
 ) -> ItemDone {
-    done_of(rt.alloc(), kind, status, became, version, seq).expect(rt, "an item")
-}
-
-// Whether what a reply says is the outcome of an item.
-fn is_outcome(rt: &(impl Abort + AllocGlobal), read: &Outcome, item: &ItemDone) -> bool {
-    is_same(read, &item.outcome(rt.alloc()).expect(rt, "memory"))
-}
-
-// Whether a reply has the outcomes of these items, in order.
-fn reads_back(rt: &(impl Abort + AllocGlobal), text: &str, items: &[ItemDone]) -> bool {
-    let outcomes = entries_of(rt, text);
-    let mut same = outcomes.len() == items.len();
-    for (outcome, item) in outcomes.iter().zip(items) {
-        same = same && is_outcome(rt, outcome, item);
+    ItemDone {
+        key: DocKey::new(rt.alloc(), "b", "2").expect(rt, "a key"),
+        kind,
+        status,
+        result: became,
+        version,
+        seq,
+        conflict: None,
     }
-    same
 }
 
-// Whether the reply to these items is this text, and reads back.
+// Whether the reply to these items is this text.
 fn is_written(
     rt: &(impl Abort + AllocGlobal),
     took: u64,
@@ -525,7 +531,7 @@ fn is_written(
     wanted: &str,
 ) -> bool {
     let text = write_reply(rt.alloc(), took, items).expect(rt, "memory");
-    text.as_str() == wanted && reads_back(rt, wanted, items)
+    text.as_str() == wanted
 }
 
 // Replies to no item, to the first of six, and to all of them, one for each result.
@@ -552,88 +558,4 @@ fn written_replies(rt: HostRuntime) {
         {\"delete\":{\"_id\":\"2\",\"_index\":\"b\",\"_seq_no\":3,\"_version\":8,\"result\":\"deleted\",\"status\":200}},\
         {\"delete\":{\"_id\":\"2\",\"_index\":\"b\",\"error\":{\"type\":\"scripted_refusal\"},\"status\":429}}],\"took\":0}";
     assert!(rt; is_written(&rt, 0, &items, all));
-}
-
-// What an outcome says of its error.
-fn detail_of(outcome: &Outcome) -> Option<&ErrorDetail> {
-    outcome.error.as_ref().map(|error| error.detail())
-}
-
-// Whether two outcomes are equal.
-fn is_same(a: &Outcome, b: &Outcome) -> bool {
-    a.kind == b.kind && a.id == b.id && a.status == b.status && detail_of(a) == detail_of(b)
-}
-
-// How many outcomes a reply has, by a second call if the first one's allocation failed.
-fn read_again(alloc: Global, text: &[u8]) -> Result<usize, ReplyFault> {
-    match read_reply(alloc, text) {
-        Err(ReplyFault::Memory) => Ok(read_reply(alloc, text)?.len()),
-        read => Ok(read?.len()),
-    }
-}
-
-// An item with a conflict, by a second call if the first one's allocation failed.
-fn conflict_again(alloc: Global) -> Result<ItemDone, ActionFault> {
-    match done_of(alloc, ActionKind::Index, 409, DoneResult::Conflict, 0, 0) {
-        Err(ActionFault::Memory) => {
-            done_of(alloc, ActionKind::Index, 409, DoneResult::Conflict, 0, 0)
-        }
-        done => done,
-    }
-}
-
-// The outcome of an item, by a second call if the first one's allocation failed.
-fn outcome_again(alloc: Global, item: &ItemDone) -> Result<Outcome, AllocError> {
-    match item.outcome(alloc) {
-        Ok(outcome) => Ok(outcome),
-        Err(AllocError) => item.outcome(alloc),
-    }
-}
-
-// The reply to items, by a second call if the first one's allocation failed.
-fn write_again(alloc: Global, items: &[ItemDone]) -> Result<String, AllocError> {
-    match write_reply(alloc, 1, items) {
-        Ok(reply) => Ok(reply),
-        Err(AllocError) => write_reply(alloc, 1, items),
-    }
-}
-
-// A failed allocation is reported as out of memory, and a second call succeeds.
-#[test]
-fn refusals(rt: HostRuntime) {
-    let text =
-        b"{\"items\":[{\"index\":{\"_id\":\"1\",\"status\":400,\"error\":{\"type\":\"x\"}}}]}";
-    assert!(rt; read_again(rt.alloc(), text) == Ok(1));
-    let items = [conflict_again(rt.alloc()).expect(&rt, "an item")];
-    let outcome = outcome_again(rt.alloc(), &items[0]).expect(&rt, "memory");
-    assert!(rt; outcome.id.as_str() == "2");
-    let reply = write_again(rt.alloc(), &items).expect(&rt, "memory");
-    assert!(rt;
-        reply.as_str()
-            == "{\"errors\":true,\"items\":[{\"index\":{\"_id\":\"2\",\"_index\":\"b\",\"error\":{\"type\":\"version_conflict_engine_exception\"},\"status\":409}}],\"took\":1}"
-    );
-}
-
-// Whether the outcome of an item of `b/2` with this result has the same error.
-fn has_outcome(rt: &(impl Abort + AllocGlobal), became: DoneResult, error: Option<&str>) -> bool {
-    let item = item(rt, ActionKind::Delete, 404, became, 1, 2);
-    let outcome = item.outcome(rt.alloc()).expect(rt, "memory");
-    is_entry(&outcome, ActionKind::Delete, "2", 404, error)
-}
-
-const OUTCOMES: [(DoneResult, Option<&str>); 4] = [
-    (DoneResult::Created, None),
-    (DoneResult::NotFound, None),
-    (
-        DoneResult::Conflict,
-        Some("version_conflict_engine_exception"),
-    ),
-    (DoneResult::Refused, Some("scripted_refusal")),
-];
-
-#[test]
-fn outcomes_of_items(rt: HostRuntime) {
-    for (became, error) in &OUTCOMES {
-        assert!(rt; has_outcome(&rt, *became, *error));
-    }
 }

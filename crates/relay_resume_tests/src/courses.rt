@@ -46,14 +46,17 @@ fn each_piece(rt: HostRuntime) {
     }
 }
 
+// Whether these bytes are read, and then a line ends there, and the next one there.
+fn end_after(ends: &mut LineEnds, bytes: &[u8], line: u64, this: u64, next: u64) -> bool {
+    ends.read(bytes).is_ok() && ends.pass(line) == this && ends.pass(line.saturating_add(1)) == next
+}
+
 // A line that ends only later.
 #[test]
 fn open_lines(rt: HostRuntime) {
     let mut ends = LineEnds::new(rt.alloc());
-    assert!(rt; ends.pass(1) == 0);
-    assert!(rt; ends.read(b"ab").is_ok() && ends.pass(1) == 2);
-    assert!(rt; ends.read(b"c\nd").is_ok() && ends.pass(1) == 4 && ends.pass(2) == 5);
-    assert!(rt; ends.read(b"\n\n").is_ok() && ends.pass(2) == 6 && ends.pass(3) == 7);
+    assert!(rt; ends.pass(1) == 0 && ends.read(b"ab").is_ok() && ends.pass(1) == 2);
+    assert!(rt; end_after(&mut ends, b"c\nd", 1, 4, 5) && end_after(&mut ends, b"\n\n", 2, 6, 7));
 }
 
 // A course to which the operations of lines 1 and 2, of line 3 and of line 4 were put.

@@ -1,6 +1,9 @@
 //! Texts that are not those of a state.
 use crate::desk::{AFTER, BEFORE, joined};
 use relay_resume::{StateFault, read_state};
+use std::alloc::Global;
+use std::mem;
+use std::process::Abort;
 
 // Each is damaged in one way.
 const TEXTS: &[&[u8]] = &[
@@ -40,10 +43,15 @@ const TEXTS: &[&[u8]] = &[
     b"\xef\xbb\xbf{\"epoch\":7,\"inputs\":[]}\n",
 ];
 
+// Whether a text is that of no state.
+fn is_refused(alloc: Global, text: &[u8]) -> bool {
+    matches!(read_state(alloc, text), Err(StateFault::Form))
+}
+
 #[test]
 fn each_text(rt: HostRuntime) {
     for text in TEXTS {
-        assert!(rt; read_state(rt.alloc(), text).is_err_and(|it| it == StateFault::Form));
+        assert!(rt; is_refused(rt.alloc(), *text));
     }
 }
 
@@ -58,14 +66,18 @@ const STRINGS: &[&[u8]] = &[
     b"\"p\" ",
 ];
 
+// Whether a text of these parts is that of no state.
+fn is_refused_of(rt: &impl Abort, alloc: Global, parts: &[&[u8]]) -> bool {
+    let text = joined(alloc, parts).expect(rt, "memory");
+    let refused = is_refused(alloc, &text);
+    mem::forget(text);
+    refused
+}
+
 #[test]
 fn each_string(rt: HostRuntime) {
     for string in STRINGS {
-        let Some(text) = joined(rt.alloc(), &[BEFORE, string, AFTER]) else {
-            assert!(rt; false);
-            return;
-        };
-        assert!(rt; read_state(rt.alloc(), &text).is_err_and(|it| it == StateFault::Form));
+        assert!(rt; is_refused_of(&rt, rt.alloc(), &[BEFORE, *string, AFTER]));
     }
 }
 
@@ -117,10 +129,7 @@ const ENDS: &[(&[u8], bool)] = &[
 #[test]
 fn each_end(rt: HostRuntime) {
     for (end, whole) in ENDS {
-        let Some(text) = joined(rt.alloc(), &[BEFORE, b"\"p\"", end]) else {
-            assert!(rt; false);
-            return;
-        };
-        assert!(rt; read_state(rt.alloc(), &text).is_ok() == *whole);
+        let parts = [BEFORE, b"\"p\"".as_slice(), *end];
+        assert!(rt; is_refused_of(&rt, rt.alloc(), &parts) != *whole);
     }
 }

@@ -15,6 +15,12 @@ pub const BEFORE: &[u8] = b"{\"epoch\":7,\"inputs\":[{\"path\":";
 pub const AFTER: &[u8] =
     b",\"device\":2049,\"inode\":131,\"checked\":4,\"digest\":\"000102030405060708090a0b0c0d0e0f101112131415161718191a1b1c1d1e1f\",\"offset\":260,\"line\":9,\"count\":5}]}\n";
 
+const MARK: Mark = Mark {
+    offset: 260,
+    line: 9,
+    count: 5,
+};
+
 /// An input with this path.
 pub fn input_of(alloc: Global, path: &str) -> Option<InputState> {
     Some(InputState {
@@ -23,22 +29,19 @@ pub fn input_of(alloc: Global, path: &str) -> Option<InputState> {
         inode: 131,
         checked: 4,
         digest: DIGEST,
-        mark: Mark {
-            offset: 260,
-            line: 9,
-            count: 5,
-        },
+        mark: MARK,
     })
 }
 
 /// The state of one input.
 pub fn state_of(alloc: Global, path: &str) -> Option<State> {
-    let mut inputs = Vec::new(alloc);
-    inputs.push(input_of(alloc, path)?).ok()?;
-    Some(State {
-        epoch: 7,
-        inputs: List::of(inputs),
-    })
+    match Vec::from_array(alloc, [input_of(alloc, path)?]) {
+        Ok(inputs) => Some(State {
+            epoch: 7,
+            inputs: List::of(inputs),
+        }),
+        Err(_) => None,
+    }
 }
 
 /// Texts one after another.
@@ -50,21 +53,19 @@ pub fn joined(alloc: Global, parts: &[&[u8]]) -> Option<Vec<u8>> {
     Some(text)
 }
 
-/// Whether two inputs are the same.
-pub fn is_same_input(one: &InputState, other: &InputState) -> bool {
-    one.path == other.path
-        && one.device == other.device
-        && one.inode == other.inode
-        && one.checked == other.checked
-        && one.digest == other.digest
-        && one.mark == other.mark
+fn is_input(input: &InputState, path: &str) -> bool {
+    input.path.as_str() == path
+        && input.device == 2_049
+        && input.inode == 131
+        && input.checked == 4
+        && input.digest == DIGEST
+        && input.mark == MARK
 }
 
 /// Whether a state is that of one input with this path.
-pub fn is_state_of(alloc: Global, state: &State, path: &str) -> Option<bool> {
-    let wanted = input_of(alloc, path)?;
+pub fn is_state_of(state: &State, path: &str) -> bool {
     match state.inputs.as_slice() {
-        [input] => Some(state.epoch == 7 && is_same_input(input, &wanted)),
-        _ => Some(false),
+        [input] => state.epoch == 7 && is_input(input, path),
+        _ => false,
     }
 }

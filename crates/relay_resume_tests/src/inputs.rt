@@ -1,13 +1,7 @@
 //! Inputs that are the same, and inputs that changed.
 use crate::desk::{DIGEST, input_of};
-use relay_resume::{Changed, Found, Mark, resumes};
-
-const SAME: Found = Found {
-    device: 2_049,
-    inode: 131,
-    length: 260,
-    digest: DIGEST,
-};
+use relay_resume::{Changed, Found, InputState, Mark, resumes};
+use std::mem;
 
 const MARK: Mark = Mark {
     offset: 260,
@@ -21,49 +15,45 @@ const OTHER: [u8; 32] = [
     26, 27, 28, 29, 30, 32,
 ];
 
-fn found(device: u64, inode: u64, length: u64, digest: [u8; 32]) -> Found {
-    Found {
-        device,
-        inode,
-        length,
-        digest,
+// The device, the inode, the length and the digest of an input now, of how many bytes the digest was
+// then, and whether the run resumes at the mark. The first difference counts, and an input may be longer
+// than its mark's offset and shorter than what the digest is of.
+type Row = (u64, u64, u64, [u8; 32], u64, Result<Mark, Changed>);
+
+const ROWS: &[Row] = &[
+    (2_049, 131, 260, DIGEST, 4, Ok(MARK)),
+    (2_049, 131, u64::MAX, DIGEST, 4, Ok(MARK)),
+    (2_048, 131, 260, DIGEST, 4, Err(Changed::Device)),
+    (2_049, 132, 260, DIGEST, 4, Err(Changed::Inode)),
+    (2_049, 131, 259, DIGEST, 4, Err(Changed::Shorter)),
+    (2_049, 131, 260, OTHER, 4, Err(Changed::Start)),
+    (0, 0, 0, OTHER, 4, Err(Changed::Device)),
+    (2_049, 0, 0, OTHER, 4, Err(Changed::Inode)),
+    (2_049, 131, 0, OTHER, 4, Err(Changed::Shorter)),
+    (2_049, 131, 299, DIGEST, 300, Err(Changed::Shorter)),
+    (2_049, 131, 300, DIGEST, 300, Ok(MARK)),
+];
+
+// Whether each row is so.
+fn are_so(then: &mut InputState, rows: &[Row]) -> bool {
+    for (device, inode, length, digest, checked, wanted) in rows {
+        then.checked = *checked;
+        let now = Found {
+            device: *device,
+            inode: *inode,
+            length: *length,
+            digest: *digest,
+        };
+        if resumes(&now, then) != *wanted {
+            return false;
+        }
     }
+    true
 }
 
 #[test]
-fn one_difference(rt: HostRuntime) {
-    let Some(then) = input_of(rt.alloc(), "p") else {
-        assert!(rt; false);
-        return;
-    };
-    assert!(rt; resumes(&SAME, &then) == Ok(MARK));
-    assert!(rt; resumes(&found(2_049, 131, u64::MAX, DIGEST), &then) == Ok(MARK));
-    assert!(rt; resumes(&found(2_048, 131, 260, DIGEST), &then) == Err(Changed::Device));
-    assert!(rt; resumes(&found(2_049, 132, 260, DIGEST), &then) == Err(Changed::Inode));
-    assert!(rt; resumes(&found(2_049, 131, 259, DIGEST), &then) == Err(Changed::Shorter));
-    assert!(rt; resumes(&found(2_049, 131, 260, OTHER), &then) == Err(Changed::Start));
-}
-
-// The first difference is returned.
-#[test]
-fn several_differences(rt: HostRuntime) {
-    let Some(then) = input_of(rt.alloc(), "p") else {
-        assert!(rt; false);
-        return;
-    };
-    assert!(rt; resumes(&found(0, 0, 0, OTHER), &then) == Err(Changed::Device));
-    assert!(rt; resumes(&found(2_049, 0, 0, OTHER), &then) == Err(Changed::Inode));
-    assert!(rt; resumes(&found(2_049, 131, 0, OTHER), &then) == Err(Changed::Shorter));
-}
-
-// It is longer than its mark's offset, and shorter than what the digest is of.
-#[test]
-fn shorter_than_checked(rt: HostRuntime) {
-    let Some(mut then) = input_of(rt.alloc(), "p") else {
-        assert!(rt; false);
-        return;
-    };
-    then.checked = 300;
-    assert!(rt; resumes(&found(2_049, 131, 299, DIGEST), &then) == Err(Changed::Shorter));
-    assert!(rt; resumes(&found(2_049, 131, 300, DIGEST), &then) == Ok(MARK));
+fn differences(rt: HostRuntime) {
+    let mut then = input_of(rt.alloc(), "p").expect(&rt, "an input");
+    assert!(rt; are_so(&mut then, ROWS));
+    mem::forget(then);
 }

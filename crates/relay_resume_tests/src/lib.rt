@@ -1,4 +1,4 @@
-//! The tests of `relay_resume`: operations that are settled in each order and at random, states that
+//! The tests of `relay_resume`: operations that are settled in each order, states that
 //! are written and read, damaged texts, and inputs that changed.
 #![tactic(auto)]
 
@@ -12,8 +12,6 @@ mod desk;
 mod inputs;
 #[cfg(test)]
 mod refusals;
-#[cfg(test)]
-mod sequences;
 #[cfg(test)]
 mod texts;
 #[cfg(test)]

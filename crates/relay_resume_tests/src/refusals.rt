@@ -3,6 +3,7 @@ use crate::courses::settles_what_was_put;
 use crate::desk::{AFTER, BEFORE, is_state_of, joined, state_of};
 use relay_resume::{Mark, Place, State, StateFault, Trail, read_state, write_state};
 use std::alloc::{AllocError, Global};
+use std::mem;
 
 const PATH: &str = "/a/path/that/has/more/than/38/bytes/operations.ndjson";
 
@@ -55,39 +56,64 @@ fn refused_courses(rt: HostRuntime) {
 }
 
 fn state(alloc: Global) -> Option<State> {
-    state_of(alloc, PATH).or_else(|| state_of(alloc, PATH))
+    match state_of(alloc, PATH) {
+        None => state_of(alloc, PATH),
+        made => made,
+    }
 }
+
+// Whether a text is that of the state.
+fn is_text(text: &[u8]) -> bool {
+    match text.strip_prefix(BEFORE) {
+        Some(rest) => rest.strip_suffix(AFTER) == Some(STRING),
+        None => false,
+    }
+}
+
+fn write_once(alloc: Global, state: &State) -> Result<bool, AllocError> {
+    match write_state(alloc, state) {
+        Ok(text) => Ok(is_text(&text)),
+        Err(AllocError) => Err(AllocError),
+    }
+}
+
+// Whether the state is written, by a second call if the first was refused.
+fn writes(alloc: Global, state: &State) -> bool {
+    match write_once(alloc, state) {
+        Err(AllocError) => write_once(alloc, state) == Ok(true),
+        written => written == Ok(true),
+    }
+}
+
+fn read_once(alloc: Global, text: &[u8]) -> Result<bool, StateFault> {
+    match read_state(alloc, text) {
+        Ok(state) => Ok(is_state_of(&state, PATH)),
+        Err(fault) => Err(fault),
+    }
+}
+
+// Whether the state is read, by a second call if the first was refused.
+fn reads(alloc: Global, text: &[u8]) -> bool {
+    match read_once(alloc, text) {
+        Err(StateFault::Memory) => read_once(alloc, text) == Ok(true),
+        read => read == Ok(true),
+    }
+}
+
+const PARTS: &[&[u8]] = &[BEFORE, STRING, AFTER];
 
 fn text(alloc: Global) -> Option<Vec<u8>> {
-    let parts: &[&[u8]] = &[BEFORE, STRING, AFTER];
-    joined(alloc, parts).or_else(|| joined(alloc, parts))
-}
-
-fn writes(alloc: Global) -> Option<bool> {
-    let state = state(alloc)?;
-    let wanted = text(alloc)?;
-    let written = match write_state(alloc, &state) {
-        Ok(written) => written,
-        Err(AllocError) => write_state(alloc, &state).ok()?,
-    };
-    Some(written.as_slice() == wanted.as_slice())
-}
-
-fn is_read(alloc: Global, state: &State) -> Option<bool> {
-    is_state_of(alloc, state, PATH).or_else(|| is_state_of(alloc, state, PATH))
-}
-
-fn reads(alloc: Global) -> Option<bool> {
-    let text = text(alloc)?;
-    match read_state(alloc, &text) {
-        Ok(state) => is_read(alloc, &state),
-        Err(StateFault::Memory) => is_read(alloc, &read_state(alloc, &text).ok()?),
-        Err(StateFault::Form) => Some(false),
+    match joined(alloc, PARTS) {
+        None => joined(alloc, PARTS),
+        made => made,
     }
 }
 
 #[test]
 fn refused_states(rt: HostRuntime) {
-    assert!(rt; writes(rt.alloc()) == Some(true));
-    assert!(rt; reads(rt.alloc()) == Some(true));
+    let state = state(rt.alloc()).expect(&rt, "a state");
+    assert!(rt; writes(rt.alloc(), &state));
+    let text = text(rt.alloc()).expect(&rt, "a text");
+    assert!(rt; reads(rt.alloc(), &text));
+    mem::forget((state, text));
 }

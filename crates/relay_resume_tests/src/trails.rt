@@ -1,6 +1,7 @@
 //! Operations that are settled in each order.
 use relay_resume::{Mark, Place, Trail};
 use std::alloc::Global;
+use std::process::Abort;
 
 // The marks before and after the three operations.
 const MARKS: [Mark; 4] = [
@@ -42,12 +43,12 @@ const ENDS: [Place; 3] = [
 ];
 
 // A trail to which the three operations were put.
-fn three(alloc: Global) -> Option<Trail> {
-    let mut trail = Trail::new(alloc, MARKS[0]);
+fn three(rt: &impl Abort, alloc: Global, start: Mark) -> Trail {
+    let mut trail = Trail::new(alloc, start);
     for end in ENDS {
-        trail.put(end).ok()?;
+        trail.put(end).expect(rt, "memory");
     }
-    Some(trail)
+    trail
 }
 
 fn stands_at(trail: &Trail, mark: usize) -> bool {
@@ -64,7 +65,7 @@ const ORDERS: &[[(u64, usize); 3]] = &[
     [(3, 0), (2, 0), (1, 3)],
 ];
 
-fn settles(trail: &mut Trail, order: &[(u64, usize); 3]) -> bool {
+fn settles(trail: &mut Trail, order: &[(u64, usize)]) -> bool {
     for (number, mark) in order {
         trail.settle(*number);
         if !stands_at(trail, *mark) {
@@ -77,39 +78,31 @@ fn settles(trail: &mut Trail, order: &[(u64, usize); 3]) -> bool {
 #[test]
 fn each_order(rt: HostRuntime) {
     for order in ORDERS {
-        let Some(mut trail) = three(rt.alloc()) else {
-            assert!(rt; false);
-            return;
-        };
+        let mut trail = three(&rt, rt.alloc(), MARKS[0]);
         assert!(rt; stands_at(&trail, 0) && settles(&mut trail, order));
     }
 }
 
 // Numbers that were not put, and those that are settled already, change nothing.
+const OTHERS: &[(u64, usize)] = &[
+    (0, 0),
+    (4, 0),
+    (u64::MAX, 0),
+    (2, 0),
+    (2, 0),
+    (1, 2),
+    (1, 2),
+    (2, 2),
+    (0, 2),
+    (4, 2),
+    (3, 3),
+    (3, 3),
+];
+
 #[test]
 fn other_numbers(rt: HostRuntime) {
-    let Some(mut trail) = three(rt.alloc()) else {
-        assert!(rt; false);
-        return;
-    };
-    let rows: &[(u64, usize)] = &[
-        (0, 0),
-        (4, 0),
-        (u64::MAX, 0),
-        (2, 0),
-        (2, 0),
-        (1, 2),
-        (1, 2),
-        (2, 2),
-        (0, 2),
-        (4, 2),
-        (3, 3),
-        (3, 3),
-    ];
-    for (number, mark) in rows {
-        trail.settle(*number);
-        assert!(rt; stands_at(&trail, *mark), "{number}");
-    }
+    let mut trail = three(&rt, rt.alloc(), MARKS[0]);
+    assert!(rt; settles(&mut trail, OTHERS));
 }
 
 // Operations that are put after others were settled.
@@ -131,10 +124,7 @@ fn many_before(rt: HostRuntime) {
         line: 0,
         count: u64::MAX - 1,
     };
-    let mut trail = Trail::new(rt.alloc(), start);
-    for end in ENDS {
-        assert!(rt; trail.put(end).is_ok());
-    }
+    let mut trail = three(&rt, rt.alloc(), start);
     for number in [3, 2, 1] {
         trail.settle(number);
     }

@@ -10,6 +10,8 @@ use relay_stub::document::put_document;
 use relay_stub::listing::listing;
 use relay_stub::{ServeError, serve_connection, stub_serve};
 use std::alloc::{AllocError, Global};
+use std::mem;
+use std::process::Abort;
 
 fn script_once(alloc: Global) -> Option<Script> {
     let mut script = Script::new(alloc);
@@ -19,7 +21,10 @@ fn script_once(alloc: Global) -> Option<Script> {
 
 // The script that refuses the second item.
 fn script_of(alloc: Global) -> Option<Script> {
-    script_once(alloc).or_else(|| script_once(alloc))
+    match script_once(alloc) {
+        None => script_once(alloc),
+        made => made,
+    }
 }
 
 fn stream_once(alloc: Global, input: &[u8]) -> Option<MemStream> {
@@ -27,7 +32,10 @@ fn stream_once(alloc: Global, input: &[u8]) -> Option<MemStream> {
 }
 
 fn stream_of(alloc: Global, input: &[u8]) -> Option<MemStream> {
-    stream_once(alloc, input).or_else(|| stream_once(alloc, input))
+    match stream_once(alloc, input) {
+        None => stream_once(alloc, input),
+        made => made,
+    }
 }
 
 fn lines_of(alloc: Global, index: &Index) -> Option<Vec<u8>> {
@@ -53,17 +61,22 @@ enum Came {
     Wrong,
 }
 
+fn came_of(served: Result<(), ServeFault>, written: &[u8], answer: &[u8]) -> Came {
+    match served {
+        Ok(()) if written.is_empty() => Came::Dropped,
+        Ok(()) if written.starts_with(answer) => Came::Answered,
+        Err(fault) if written.is_empty() => Came::Refused(fault.ran),
+        _ => Came::Wrong,
+    }
+}
+
 // Serves a connection, whose answer begins with this.
 fn connect(alloc: Global, index: &mut Index, script: &mut Script, answer: &[u8]) -> Option<Came> {
     let stream = stream_of(alloc, DELETES)?;
     let (served, stream) = serve_connection(alloc, stream, index, script);
-    let empty = stream.written().is_empty();
-    Some(match served {
-        Ok(()) if empty => Came::Dropped,
-        Ok(()) if stream.written().starts_with(answer) => Came::Answered,
-        Err(fault) if empty => Came::Refused(fault.ran),
-        _ => Came::Wrong,
-    })
+    let came = came_of(served, stream.written(), answer);
+    mem::forget(stream);
+    Some(came)
 }
 
 // Whether a fresh index has applied the number of writes that follows from how its first connection
@@ -96,17 +109,27 @@ fn answers_two(alloc: Global, index: &mut Index, script: &mut Script) -> Option<
 const ALL_LINES: &[u8] =
     b"applied a/9 4 delete\napplied b/10 3 delete\napplied b/2 1 delete\napplied b/3 2 delete\n";
 
+// Whether these are the lines of an index.
+fn lists(alloc: Global, index: &Index, wanted: &[u8]) -> bool {
+    match lines_of(alloc, index) {
+        Some(lines) => lines.as_slice() == wanted,
+        None => false,
+    }
+}
+
 // Whether each of the four deletes is applied once after three connections.
-fn serves_once(alloc: Global) -> Option<bool> {
+fn serves_once(rt: &impl Abort, alloc: Global) -> bool {
     let mut index = Index::new(alloc);
-    let mut script = script_of(alloc)?;
-    let good = answers_two(alloc, &mut index, &mut script)?;
-    Some(good && lines_of(alloc, &index)?.as_slice() == ALL_LINES)
+    let mut script = script_of(alloc).expect(rt, "a script");
+    let good = answers_two(alloc, &mut index, &mut script) == Some(true)
+        && lists(alloc, &index, ALL_LINES);
+    mem::forget((index, script));
+    good
 }
 
 #[test]
 fn refused_connection(rt: HostRuntime) {
-    assert!(rt; serves_once(rt.alloc()) == Some(true));
+    assert!(rt; serves_once(&rt, rt.alloc()));
 }
 
 const VISITS: [Visit<'static>; 1] = [Visit {
@@ -140,24 +163,26 @@ fn end_of(desk: &Desk<'_>, served: Result<(), ServeError>, lines: &[u8]) -> End 
 }
 
 // Serves a listener's connection with an index.
-fn serve(alloc: Global, index: &mut Index, script: &mut Script) -> Option<End> {
+fn serve(rt: &impl Abort, alloc: Global, index: &mut Index, script: &mut Script) -> End {
     let mut desk = Desk::new(alloc, &VISITS, 100);
     let served = stub_serve(alloc, &mut desk, 1, index, script);
-    let lines = lines_of(alloc, index)?;
-    Some(end_of(&desk, served, lines.as_slice()))
+    let lines = lines_of(alloc, index).expect(rt, "the lines");
+    end_of(&desk, served, lines.as_slice())
 }
 
-fn serve_once(alloc: Global) -> Option<End> {
+fn serve_once(rt: &impl Abort, alloc: Global) -> End {
     let mut index = Index::new(alloc);
-    let mut script = script_of(alloc)?;
-    serve(alloc, &mut index, &mut script)
+    let mut script = script_of(alloc).expect(rt, "a script");
+    let end = serve(rt, alloc, &mut index, &mut script);
+    mem::forget((index, script));
+    end
 }
 
 #[test]
 fn refused_serving(rt: HostRuntime) {
-    let first = serve_once(rt.alloc());
-    assert!(rt; first == Some(End::Whole) || first == Some(End::Refused));
-    assert!(rt; first == Some(End::Whole) || serve_once(rt.alloc()) == Some(End::Whole));
+    let first = serve_once(&rt, rt.alloc());
+    assert!(rt; first == End::Whole || first == End::Refused);
+    assert!(rt; first == End::Whole || serve_once(&rt, rt.alloc()) == End::Whole);
 }
 
 // The outcome of the command: it wrote the lines of what was applied, or nothing.
@@ -173,26 +198,30 @@ fn end_of_command(desk: &Desk<'_>, done: Result<(), StubFault>, written: &[u8]) 
     if right { End::Refused } else { End::Wrong }
 }
 
-fn command_once(alloc: Global) -> Option<End> {
-    let script = script_of(alloc)?;
-    let mut writer = stream_of(alloc, b"")?;
+fn command_once(rt: &impl Abort, alloc: Global) -> End {
+    let script = script_of(alloc).expect(rt, "a script");
+    let mut writer = stream_of(alloc, b"").expect(rt, "a stream");
     let mut desk = Desk::new(alloc, &VISITS, 100);
     let done = stub(alloc, &mut desk, 1, Index::new(alloc), script, &mut writer);
-    Some(end_of_command(&desk, done, writer.written()))
+    let end = end_of_command(&desk, done, writer.written());
+    mem::forget(writer);
+    end
 }
 
 #[test]
 fn refused_command(rt: HostRuntime) {
-    let first = command_once(rt.alloc());
-    assert!(rt; first == Some(End::Whole) || first == Some(End::Refused));
-    assert!(rt; first == Some(End::Whole) || command_once(rt.alloc()) == Some(End::Whole));
+    let first = command_once(&rt, rt.alloc());
+    assert!(rt; first == End::Whole || first == End::Refused);
+    assert!(rt; first == End::Whole || command_once(&rt, rt.alloc()) == End::Whole);
 }
 
+const DOCUMENT: &str = "an id that has more than thirty-eight bytes";
+
 fn key_of(alloc: Global) -> Option<DocKey> {
-    let id = "an id that has more than thirty-eight bytes";
-    DocKey::new(alloc, "r", id)
-        .or_else(|_| DocKey::new(alloc, "r", id))
-        .ok()
+    match DocKey::new(alloc, "r", DOCUMENT) {
+        Ok(key) => Some(key),
+        Err(_) => DocKey::new(alloc, "r", DOCUMENT).ok(),
+    }
 }
 
 // Stores a document, and returns the status of the answer.
@@ -205,11 +234,10 @@ fn put_once(alloc: Global, index: &mut Index) -> Option<Result<u16, ServeFault>>
 
 // Whether a document is created, and a second write updates it. After a refused allocation the
 // write was run or not, as the fault says.
-fn puts_twice(alloc: Global) -> Option<bool> {
-    let mut index = Index::new(alloc);
+fn puts_twice(alloc: Global, index: &mut Index) -> Option<bool> {
     let mut ran = 0u64;
     for _ in 0..3u64 {
-        match put_once(alloc, &mut index)? {
+        match put_once(alloc, index)? {
             Ok(status) if (status == 201) != (ran == 0) => return Some(false),
             Ok(_) => ran = ran.saturating_add(1),
             Err(fault) => ran = ran.saturating_add(fault.ran.min(1)),
@@ -221,5 +249,7 @@ fn puts_twice(alloc: Global) -> Option<bool> {
 
 #[test]
 fn refused_documents(rt: HostRuntime) {
-    assert!(rt; puts_twice(rt.alloc()) == Some(true));
+    let mut index = Index::new(rt.alloc());
+    assert!(rt; puts_twice(rt.alloc(), &mut index) == Some(true));
+    mem::forget(index);
 }

@@ -4,6 +4,7 @@ use relay_index::Index;
 use relay_stub::ServeError;
 use relay_stub::listing::listing;
 use std::alloc::Global;
+use std::mem;
 use std::process::Abort;
 
 // A delete of document 1 with version 5.
@@ -108,7 +109,9 @@ fn leaves_by(
     let mut script = script_of(rt, alloc, refusals);
     let served = serves(rt, alloc, visits, piece, requests, &mut index, &mut script);
     let listed = listing(alloc, &index).expect(rt, "memory");
-    served == answer && listed.as_slice() == lines.as_bytes()
+    let good = served == answer && listed.as_slice() == lines.as_bytes();
+    mem::forget((index, script, listed));
+    good
 }
 
 const ONE: &str = "applied b/1 5 delete\n";

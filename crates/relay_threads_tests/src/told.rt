@@ -45,6 +45,10 @@ impl Tell for Summing {
 
     ghost told = { λ t p. None };
 
+    ghost Destination = { Unit {0} };
+
+    ghost destination = { λ _. tt };
+
     fn applied<R: Wait>(&mut self, _rt: &R, successes: &[Success]) {
         for success in successes {
             let _ = self.sums.successes.fetch_add(1, Ordering::SeqCst);
