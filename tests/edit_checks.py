@@ -8,6 +8,7 @@ import subprocess
 import tempfile
 
 from crates import CRATES, TOP, below, lines_of
+from edit_files import text_of, without_body
 
 # Where `gate.py` keeps what `rt ci` proved of a crate.
 SEEDS = os.path.join(TOP, "out", "seeds")
@@ -20,7 +21,7 @@ class Kept:
 
     def __init__(self, crate, after_gate):
         places = [os.path.join(SEEDS, crate)] * after_gate + [os.path.join(CRATES, crate, "out", "incremental")]
-        self.proved, self.left = next(filter(os.path.isdir, places), None), tempfile.TemporaryDirectory(prefix="relay-edits-kept-")
+        self.proved, self.left = next(filter(has_proofs, places), None), tempfile.TemporaryDirectory(prefix="relay-edits-kept-")
 
     @contextlib.contextmanager
     def folder(self):
@@ -33,8 +34,11 @@ class Kept:
             yield own
 
 
-def check(crate, texts, kept, only):
-    """Checks the crate with these texts in place of its own, or only these functions of it. Returns the status and the output."""
+def check(crate, texts, kept, only, without=()):
+    """Checks the crate with these texts in place of its own, or only these functions of it. Returns the status and the output.
+
+    The functions `without` get a body that does nothing and an empty proof. What calls them is checked all the same, since that rests
+    on their contracts alone."""
     own = lines_of()[crate].partition(":")[2].split()
     words = [os.path.join(KIT, "bin", "rattle"), "check", "--crate-name", crate, "src/lib.rt", "-L", "dependency=%s/rlibs" % KIT]
     for name in ["std", *own]:
@@ -50,6 +54,14 @@ def check(crate, texts, kept, only):
         for path, text in texts.items():
             with open(os.path.join(room, path), "w", encoding="utf-8") as file:
                 file.write(text)
+        for place in without:
+            folder, source = os.path.join(room, place.proofs), os.path.join(room, place.file)
+            shutil.rmtree(folder, ignore_errors=True)
+            os.makedirs(folder)
+            text = without_body(text_of(source), place)
+            for path, content in (os.path.join(folder, "Proof.antt"), ""), (source, text):
+                with open(path, "w", encoding="utf-8") as file:
+                    file.write(content)
         ran = subprocess.run([*words, "--incremental", over], cwd=room, stdin=subprocess.DEVNULL, stdout=subprocess.PIPE, stderr=subprocess.STDOUT, text=True, errors="replace")
     return ran.returncode, ran.stdout
 
@@ -61,6 +73,11 @@ def rlib(crate):
 def is_verdict(said):
     """Returns true if the check came to its end."""
     return re.match(r"only=|logic=", said.strip().rpartition("\n")[2]) is not None
+
+
+def has_proofs(folder):
+    """Returns true if checks kept work in this folder."""
+    return any(name.endswith(".oantt") for _, _, names in os.walk(folder) for name in names)
 
 
 def link(one, other):

@@ -16,8 +16,12 @@ from crates import CRATES
 ERROR = re.compile(r"(?:note: )?(?:\./)?(\S+?):(\d+):\d+: (?:error(?:\[[\w-]+\])?: (?:`[^`]*`: )?|(?=it is not proved))(.*)")
 # What it says of a text that it cannot read, or of a proof that names what an edit removed: neither says anything of a contract.
 UNREAD = re.compile(r"is not in scope|has no field|has no `|is no name|was not admitted|operand is missing|expected the end|cannot continue")
+# The head of a type.
+TYPE = r"^(?:pub(?:\(\w+\))? )?(?:struct|enum) (\w+)"
 # The head of an impl block or of a trait, or of a function.
 ITEM = r"^(?:impl\b[^{]*\{|(?:pub )?trait \w+[^{]*\{)|^( *)(?:pub(?:\([\w:]+\))? )?(?:const |unsafe )*fn (\w+).*"
+# A function whose body means something to others: of a cycle, a comparison, a constant one, and one whose type is not named.
+KEPT = re.compile(r"/\+|(?:PartialEq|Eq|PartialOrd|Ord|Hash)/\w+/|\bconst fn\b|-> *impl\b")
 # The function that an edit changes: its file, its name, its first and last line, and where its proof files are.
 Place = collections.namedtuple("Place", "file name first last proofs")
 
@@ -83,17 +87,18 @@ def defaulted(crate):
 
 @functools.lru_cache(maxsize=None)
 def homes(crate):
-    """Returns the module of each type of a crate: the prover names its methods by it, wherever their impl block is."""
+    """Returns the module of each type of a crate: the prover names its methods by it, wherever their impl block is. Of types with one
+    name an impl block is that of its own file's."""
     found, top = {}, os.path.join(CRATES, crate)
     for path in glob.glob(top + "/src/**/*.rt", recursive=True):
-        for name in re.findall(r"^(?:pub(?:\(\w+\))? )?(?:struct|enum) (\w+)", text_of(path), re.M):
+        for name in re.findall(TYPE, text_of(path), re.M):
             found[name] = module_of(os.path.relpath(path, top))
     return found
 
 
 def functions_of(crate, path, text):
     """Yields the place of each function of a source file, which is in the layout of `rt fmt`. Functions of traits have none."""
-    owner = None
+    owner, here = None, re.findall(TYPE, text, re.M)
     for item in re.finditer(ITEM, text, re.M):
         indent, name = item[1], item[2]
         if name is None:
@@ -106,14 +111,34 @@ def functions_of(crate, path, text):
         if indent and owner is None:
             continue
         lines, first = text.split("\n"), text.count("\n", 0, item.start())
-        last = first if lines[first].endswith("}") else next((at for at in range(first, len(lines)) if lines[at] == indent + "}"), first)
+        last = first if lines[first].endswith("}") else next((at for at in range(first, len(lines)) if lines[at] in (indent + "}", indent + "{}")), first)
         # The prover's line of a function is that of its first attribute.
         while first and lines[first - 1].strip() and not re.match(r"\s*//|.*[};{]$", lines[first - 1]):
             first -= 1
-        home = homes(crate).get(owner, module_of(path)) + [owner] if indent else module_of(path)
+        home = module_of(path) if not indent or owner in here else homes(crate).get(owner, module_of(path))
+        home = [*home, owner] if indent else home
         cycle = re.search(r"^ *#\[cycle\((\w+)\)\]", "\n".join(lines[first:last]), re.M)
         proofs = "/".join(["proofs", *home, "+" + cycle[1] if cycle else name, ""])
         yield Place(path, "::".join([*home, name]), first + 1, last + 1, proofs)
+
+
+def without_body(text, place):
+    """Returns the text of a source file with a body for this function that does nothing, in as many lines, unless it has to keep its own."""
+    lines = text.split("\n")
+    item, indent = lines[place.first - 1 : place.last], re.match(" *", lines[place.last - 1])[0]
+    opened = [at for at, line in enumerate(item) if line == indent + "{"] or [at for at, line in enumerate(item) if line.endswith("{")]
+    if item[-1] != indent + "}" or not opened or len(item) - opened[0] < 3 or KEPT.search(place.proofs + "\n".join(item[: opened[0] + 1])):
+        return text
+    lines[place.first + opened[0] : place.last - 1] = [indent + "    loop {}"] + [""] * (len(item) - opened[0] - 3)
+    return "\n".join(lines)
+
+
+@functools.lru_cache(maxsize=None)
+def functions_in(crate):
+    """Returns the places of the functions of a crate, but for those of traits."""
+    top = os.path.join(CRATES, crate)
+    paths = [os.path.relpath(it, top) for it in glob.glob(top + "/src/**/*.rt", recursive=True)]
+    return [place for path in paths for place in functions_of(crate, path, text_of(os.path.join(top, path)))]
 
 
 class Edit:

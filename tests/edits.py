@@ -2,10 +2,11 @@
 
 Each is a wrong body that the prover must refuse, in the format of the kit's must-fail edits. A proof rests on the contracts of what
 its function calls and not on their bodies, so edits of different functions are tried in one check. Such an edit is refused if the
-prover reports an error of the function itself, at its own lines or in its own proof files: that it calls a function which another
-edit broke does not count. An edit that its batch does not refuse is tried again alone. So is an edit of more than one function or of
-a definition, for which any error counts. If it names a law, only that function is checked, which is quicker, and must be refused.
-The run fails if an edit is not refused, or cannot be applied, compiled or read.
+prover reports an error of the function itself, at its own lines or in its own proof files: that it calls a function which is not
+proved does not count. So in a crate that was not proved before, the functions that are not edited get an empty proof: that saves
+proving those that are called. An edit that its batch does not refuse is tried again alone. So is an edit of more than one function
+or of a definition, for which any error counts. If it names a law, only that function is checked, which is quicker, and must be
+refused. The run fails if an edit is not refused, or cannot be applied, compiled or read.
 
 With --gate, the libraries below are those that `rt ci` has just built, and each check of a crate begins with what `gate.py` kept of
 it, or if it kept nothing, with what the check before it did. Otherwise `rt check` builds the libraries that changed, and each check
@@ -26,7 +27,7 @@ import time
 
 from crates import CRATES, TOP, add_file, files_below, lines_of, sum_of
 from edit_checks import Kept, check, is_ready, is_verdict
-from edit_files import UNREAD, Edit, Unusable, errors_of, is_refused, text_of
+from edit_files import UNREAD, Edit, Unusable, errors_of, functions_in, is_refused, text_of
 
 # Where the checksums of crates are kept whose edits were all refused.
 DONE = os.path.join(TOP, "out", "edits")
@@ -35,9 +36,33 @@ SCRIPTS = ("crates.py", "edit_checks.py", "edit_files.py", "edits.py")
 MEMORY, TELL = 3 << 30, 60
 
 
+def others(crate, names):
+    """Returns the functions of the crate but for these and those of their cycles."""
+    places = functions_in(crate)
+    cycles = {it.proofs for it in places if it.name in names}
+    return [it for it in places if it.proofs not in cycles]
+
+
+def verdict_of(crate, texts, kept, only):
+    """Checks these functions of the crate, or all, with these texts. If nothing is proved yet, the other functions are left empty,
+    unless the text then does not reach the prover."""
+    empty = others(crate, only) if only and not kept.proved else []
+    status, said = check(crate, texts, kept, only, empty)
+    return check(crate, texts, kept, only) if empty and not is_verdict(said) else (status, said)
+
+
+def is_refused_in(said, edit):
+    with contextlib.suppress(Unusable):
+        return edit.refused(said)
+    return False
+
+
 def alone(edit, kept):
     """Tries one edit. Returns None if it is refused, or else why that fails."""
-    status, said = check(edit.crate, edit.made({}), kept, [edit.place.name] if edit.place else [edit.law] if edit.law else [])
+    only = [edit.place.name] if edit.place else [edit.law] if edit.law else []
+    status, said = verdict_of(edit.crate, edit.made({}), kept, only)
+    if edit.place and not kept.proved and not is_refused_in(said, edit):
+        status, said = check(edit.crate, edit.made({}), kept, only)
     errors = errors_of(said)
     told = "; ".join("%s:%d: %s" % error for error in errors[:2])[:300] or said.strip().rpartition("\n")[2][:300]
     if status == 0:
@@ -110,15 +135,12 @@ class Run:
             with contextlib.suppress(Unusable):
                 texts = edit.made(texts)
                 made.append(edit)
-        said = check(edits[0].crate, texts, kept, [it.place.name for it in made])[1]
+        said = verdict_of(edits[0].crate, texts, kept, [it.place.name for it in made])[1]
         self.count(0)
         if not is_verdict(said):
             half = len(edits) // 2
             return self.together(edits[:half], kept) + self.together(edits[half:], kept)
-        refused = []
-        for edit in made:
-            with contextlib.suppress(Unusable):
-                refused += [edit] if edit.refused(said) else []
+        refused = [it for it in made if is_refused_in(said, it)]
         self.count(len(refused), 0)
         return [it for it in edits if it not in refused]
 
