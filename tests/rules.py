@@ -130,7 +130,12 @@ HOMES = {
     }),
     "relay_run": (RUN, {"the epoch of a run": EPOCHS}),
     "relay_scenario": (SCRIPT, {"which lines are taken": WORLD, "which calls failed": WORLD, "exit statuses": WORLD}),
-    "relay_serve": (SERVE, {"putting the writes": ANSWERS, "a producer as what": OPERATIONS, "a connection:": (SERVE, REQUESTS)}),
+    "relay_serve": (SERVE, {
+        "putting the writes": ANSWERS,
+        "what clients are told": ANSWERS,
+        "a producer as what": OPERATIONS,
+        "a connection:": (SERVE, REQUESTS),
+    }),
     "relay_stub": (STUB, {}),
     "relay_target": ((EPOCHS, STUB), {"a document as a command line": EPOCHS}),
     "relay_words": ((SCRIPT, RUN), {

@@ -103,9 +103,15 @@ impl<P: ByteOut> SavingTell<P> {
 }
 
 impl<P: ByteOut> Tell for SavingTell<P> {
+    ghost use Rattle.std.specs.Prelude.{ℕ, List};
     ghost use Rattle.relay_run.specs.Saving.{told_by};
 
     ghost told = { λ t p. told_by t p };
+
+    // How the operations are numbered in the reports.
+    ghost Destination = { List ℕ };
+
+    ghost destination = { λ t. t.before };
 
     fn applied<R: Wait>(&mut self, rt: &R, successes: &[Success]) {
         if let Some(stop) = &self.stop {

@@ -3,5 +3,7 @@ pub mod Noting
 pub mod Putting
 pub mod Pairing
 pub mod Serving
+pub mod Meets
+pub mod Acknowledging
 pub mod Delivering
 pub mod Valid

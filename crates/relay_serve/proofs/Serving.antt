@@ -1,6 +1,7 @@
 -- What workers settle, one request after another, and what their producers have put by then.
-use Rattle.std.proofs.Common.{◌≡◌, ℕ, zero, suc, ◌+◌, List, [], ◌∷◌, ◌++◌, length, map, get_or, refl, ap, sym, subst, ◌∙◌, arith, append_assoc, append-nil, inl, inr, add-zero}
+use Rattle.std.proofs.Common.{◌≡◌, ℕ, zero, suc, ◌+◌, ◌<◌, List, [], ◌∷◌, ◌++◌, length, map, get_or, refl, ap, sym, subst, ◌∙◌, arith, append_assoc, append-nil, inl, inr, add-zero}
 use Rattle.std.proofs.lemmas.List.{map-append}
+use Rattle.std.specs.Prelude.{Some, slice_get}
 use Rattle.relay_action.specs.declared.operation.Op.{Op}
 use Rattle.relay_queue.specs.Ends.{Queue, SenderEnd}
 use Rattle.relay_producer.specs.Ends.{open_puts, closed_puts}
@@ -8,7 +9,8 @@ use Rattle.relay_producer.specs.Puts.{HasPut}
 use Rattle.relay_producer.specs.States.{ProducerState, ClosedProducerState, lane_for}
 use Rattle.relay_producer.proofs.Closing.{put_kept}
 use Rattle.relay_producer.proofs.Putting.{same_marked}
-use Rattle.relay_receipts.specs.Ends.{TakeEnd}
+use Rattle.relay_receipts.specs.Ends.{Channel, TakeEnd}
+use Rattle.relay_receipts.specs.Notices.{IsWellTaken}
 use Rattle.relay_receipts.specs.Windows.{WindowState}
 use Rattle.relay_threads.specs.DeliveryOfAll.{HavePut}
 use Rattle.relay_threads.specs.Relay.{AreNew, new_producer}
@@ -21,12 +23,14 @@ use Rattle.relay_front.specs.Operations.{Write}
 use Rattle.relay_front.specs.Service.{Settles as SettlesFor}
 use Rattle.relay_front.proofs.Settling.{IsKept}
 use Rattle.relay_telling.specs.declared.ending.Ending.{Ending}
+use Rattle.relay_telling.specs.New.{channels_of, new_take}
 use Rattle.relay_serve.specs.declared.producing.Producing.{Producing}
 use Rattle.relay_serve.specs.Serving.{Request, AreSettled, Served, GoesOn, HasServed, HaveServed, WorkersSettled, all_put, taken_by}
 use Rattle.relay_serve.specs.Settling.{Event, Stays, Settles, AreUnput, puts_in, heard_in}
 use Rattle.std.specs.declared.thread.PromisedHandle.{PromisedHandle}
 use Rattle.relay_serve.specs.declared.workers.WorkerPromise.{WorkerPromise}
-use Rattle.relay_serve.specs.Workers.{given_to, producer_in}
+use Rattle.relay_serve.specs.Meeting.{AllWellTaken}
+use Rattle.relay_serve.specs.Workers.{given_to, channel_in, producer_in, receipts_in}
 use Rattle.relay_serve.proofs.Staying.{stays_same, stays_on}
 use Rattle.relay_serve.proofs.Putting.{puts_count}
 
@@ -84,7 +88,7 @@ serves_kept {R} = record {
 
 -- ---- what was put
 
-named_append : (e p n : ℕ) (a b : List Write) → named_ops e p n (a ++ b) ≡ named_ops e p n a ++ named_ops e p (n + length a) b
+pub named_append : (e p n : ℕ) (a b : List Write) → named_ops e p n (a ++ b) ≡ named_ops e p n a ++ named_ops e p (n + length a) b
 named_append e p n [] b = ap (λ m. named_ops e p m b) (sym (add-zero n))
 named_append e p n (w ∷ a) b =
     let here : Op = record { epoch = e; producer = p; number = n; key = w.0; action = w.1 } in
@@ -109,6 +113,10 @@ unput_same old es (w ∷ ws) ends new (inr (inl h)) =
       ends = ap (λ (s : ProducerState). open_puts s.ends) h.1 ∙ same_marked (lane_for w.0 fed) fed.ends;
     }
 unput_same old es (w ∷ ws) ends new (inr (inr h)) = same_puts _ new h.2
+
+pub settle_count : (old new : WindowState Ending) (ws : List Write) (ends : List End) (h : Settles old ws ends new) → new.producer.put ≡ old.producer.put + length (puts_in h.events)
+settle_count old new ws ends h =
+    (unput_same old h.events h.others h.unput new.producer h.why).put ∙ puts_count old.producer (puts_in h.events)
 
 -- what was put for one request is added
 record PutsMore (e p : ℕ) (old new : WindowState Ending) (done : List Op) (ws : List Write) : Type 0 where
@@ -166,15 +174,25 @@ SettledAs queues epoch p [] = Unit {0}
 SettledAs queues epoch p (rs ∷ all) =
     ((start : WindowState Ending) × (last : WindowState Ending) × (start.producer ≡ new_producer queues epoch p) × AreSettled rs start last) × SettledAs queues epoch (p + 1) all
 
-pub record AllServed (queues : List Queue) (epoch p : ℕ) (ws : List (WindowState Ending)) (cs : List ClosedProducerState) : Type 0 where
+-- from each worker's end of its channel the notices were taken that were taken for these requests
+abbrev pub HaveTaken : List (List Request) → List (WindowState Ending) → List (TakeEnd Ending) → Type 0
+HaveTaken [] [] [] = Unit {0}
+HaveTaken [] [] (t ∷ ts) = ⊥
+HaveTaken [] (w ∷ ws) ts = ⊥
+HaveTaken (rs ∷ all) [] ts = ⊥
+HaveTaken (rs ∷ all) (w ∷ ws) [] = ⊥
+HaveTaken (rs ∷ all) (w ∷ ws) (t ∷ ts) = (t ≡ record w.receipts { taken = w.receipts.taken ++ taken_by rs }) × HaveTaken all ws ts
+
+pub record AllServed (queues : List Queue) (epoch p : ℕ) (ws : List (WindowState Ending)) (cs : List ClosedProducerState) (ts : List (TakeEnd Ending)) : Type 0 where
   pub requests : List (List Request)
   pub count : length requests ≡ length ws
   pub settled : SettledAs queues epoch p requests
   pub put : HavePutAs epoch p (map all_put requests) cs
+  pub took : HaveTaken requests ws ts
   pub identities : map identity_of_closed cs ≡ map (λ w. identity_of (producer_in w)) ws
 
-pub all_served : (queues : List Queue) (epoch p : ℕ) (ws : List (WindowState Ending)) (cs : List ClosedProducerState) (ts : List (TakeEnd Ending)) → AreNew queues epoch p (map producer_in ws) → HaveServed ws cs ts → AllServed queues epoch p ws cs
-all_served queues epoch p [] [] [] new h = record { requests = []; count = refl; settled = tt; put = tt; identities = refl }
+pub all_served : (queues : List Queue) (epoch p : ℕ) (ws : List (WindowState Ending)) (cs : List ClosedProducerState) (ts : List (TakeEnd Ending)) → AreNew queues epoch p (map producer_in ws) → HaveServed ws cs ts → AllServed queues epoch p ws cs ts
+all_served queues epoch p [] [] [] new h = record { requests = []; count = refl; settled = tt; put = tt; took = tt; identities = refl }
 all_served queues epoch p [] [] (t ∷ ts) new h = absurd h
 all_served queues epoch p [] (c ∷ cs) ts new h = absurd h
 all_served queues epoch p (w ∷ ws) [] ts new h = absurd h
@@ -189,17 +207,54 @@ all_served queues epoch p (w ∷ ws) (c ∷ cs) (t ∷ ts) new h =
       count = ap suc r.count;
       settled = ((w, h.0.last, new.0, own.settled), r.settled);
       put = (closed_put queues epoch p w c t new.0 h.0, r.put);
+      took = (h.0.took, r.took);
       identities = λ i. same i ∷ others i;
     }
 
-settled_at : (queues : List Queue) (epoch p count : ℕ) (all : ℕ → List Request) (rs : List (List Request)) → count ≡ length rs → ((k : ℕ) → all (p + k) ≡ get_or rs k []) → SettledAs queues epoch p rs → WorkersSettled queues epoch all count p
-settled_at queues epoch p zero all rs n e h = tt
-settled_at queues epoch p (suc count) all [] n e h = absurd (omega (arith, n))
-settled_at queues epoch p (suc count) all (r ∷ rs) n e h =
-    let here : all p ≡ r = ap all (let z : p ≡ p + 0 = omega arith in z) ∙ e 0 in (
-      (h.0.0, h.0.1, h.0.2, subst (λ x. AreSettled x h.0.0 h.0.1) (sym here) h.0.3),
-      settled_at queues epoch (p + 1) count all rs (omega (arith, n)) (λ k. ap all (let z : p + 1 + k ≡ p + suc k = omega arith in z) ∙ e (suc k)) h.1,
+settled_at : (queues : List Queue) (epoch lanes p : ℕ) (all : ℕ → List Request) (rs : List (List Request)) (ws : List (WindowState Ending)) (ts : List (TakeEnd Ending)) (channels : List (Channel Ending)) → ((k : ℕ) → all (p + k) ≡ get_or rs k [])
+    → SettledAs queues epoch p rs → HaveTaken rs ws ts → map receipts_in ws ≡ map (new_take lanes) channels → WorkersSettled queues epoch all p ts
+settled_at queues epoch lanes p all [] [] [] channels e h took new = tt
+settled_at queues epoch lanes p all [] [] (t ∷ ts) channels e h took new = absurd took
+settled_at queues epoch lanes p all [] (w ∷ ws) ts channels e h took new = absurd took
+settled_at queues epoch lanes p all (r ∷ rs) [] ts channels e h took new = absurd took
+settled_at queues epoch lanes p all (r ∷ rs) (w ∷ ws) [] channels e h took new = absurd took
+settled_at queues epoch lanes p all (r ∷ rs) (w ∷ ws) (t ∷ ts) [] e h took new = absurd (let n : suc (length (map receipts_in ws)) ≡ 0 = ap length new in omega (arith, n))
+settled_at queues epoch lanes p all (r ∷ rs) (w ∷ ws) (t ∷ ts) (c ∷ channels) e h took new =
+    let here : all p ≡ r = ap all (let z : p ≡ p + 0 = omega arith in z) ∙ e 0 in
+    let own : w.receipts ≡ new_take lanes c = cc in
+    let others : map receipts_in ws ≡ map (new_take lanes) channels = cc in (
+      record {
+        start = h.0.0;
+        last = h.0.1;
+        new = h.0.2;
+        settled = subst (λ x. AreSettled x h.0.0 h.0.1) (sym here) h.0.3;
+        took = ap (λ (x : TakeEnd Ending). x.taken) took.0 ∙ ap (λ (x : TakeEnd Ending). x.taken ++ taken_by r) own ∙ ap taken_by (sym here);
+      },
+      settled_at queues epoch lanes (p + 1) all rs ws ts channels (λ k. ap all (let z : p + 1 + k ≡ p + suc k = omega arith in z) ∙ e (suc k)) h.1 took.1 others,
     )
+
+-- each of these ends is of a channel that so many lanes tell on
+abbrev pub AllOfLanes : ℕ → List (TakeEnd Ending) → Type 0
+AllOfLanes lanes [] = Unit {0}
+AllOfLanes lanes (t ∷ ts) = (t.lanes ≡ lanes) × AllOfLanes lanes ts
+
+-- the ends of workers, as many as there are
+record TakenOf (lanes : ℕ) (rs : List (List Request)) (ts : List (TakeEnd Ending)) : Type 0 where
+  pub count : length ts ≡ length rs
+  pub of_lanes : AllOfLanes lanes ts
+
+taken_of_all : (lanes : ℕ) (rs : List (List Request)) (ws : List (WindowState Ending)) (ts : List (TakeEnd Ending)) (channels : List (Channel Ending)) → HaveTaken rs ws ts → map receipts_in ws ≡ map (new_take lanes) channels → TakenOf lanes rs ts
+taken_of_all lanes [] [] [] channels took new = record { count = refl; of_lanes = tt }
+taken_of_all lanes [] [] (t ∷ ts) channels took new = absurd took
+taken_of_all lanes [] (w ∷ ws) ts channels took new = absurd took
+taken_of_all lanes (r ∷ rs) [] ts channels took new = absurd took
+taken_of_all lanes (r ∷ rs) (w ∷ ws) [] channels took new = absurd took
+taken_of_all lanes (r ∷ rs) (w ∷ ws) (t ∷ ts) [] took new = absurd (let n : suc (length (map receipts_in ws)) ≡ 0 = ap length new in omega (arith, n))
+taken_of_all lanes (r ∷ rs) (w ∷ ws) (t ∷ ts) (c ∷ channels) took new =
+    let own : w.receipts ≡ new_take lanes c = cc in
+    let others : map receipts_in ws ≡ map (new_take lanes) channels = cc in
+    let rest = taken_of_all lanes rs ws ts channels took.1 others in
+    record { count = ap suc rest.count; of_lanes = (ap (λ (x : TakeEnd Ending). x.lanes) took.0 ∙ ap (λ (x : TakeEnd Ending). x.lanes) own, rest.of_lanes) }
 
 put_of : (rs : List (List Request)) (k : ℕ) → all_put (get_or rs k []) ≡ get_or (map all_put rs) k []
 put_of [] zero = refl
@@ -207,20 +262,73 @@ put_of [] (suc k) = refl
 put_of (r ∷ rs) zero = refl
 put_of (r ∷ rs) (suc k) = put_of rs k
 
--- what is said of them
-pub record SettledAndPut (queues : List Queue) (epoch count : ℕ) (cs : List ClosedProducerState) : Type 0 where
-  pub requests : ℕ → List Request
-  pub settled : WorkersSettled queues epoch requests count 0
-  pub put : HavePut (λ p. named_ops epoch p 1 (all_put (requests p))) 0 cs
+-- each returns its end of the channel that it was given
+pub served_channels : (ws : List (WindowState Ending)) (cs : List ClosedProducerState) (ts : List (TakeEnd Ending)) → HaveServed ws cs ts → channels_of ts ≡ map channel_in ws
+served_channels [] [] [] h = refl
+served_channels [] [] (t ∷ ts) h = absurd h
+served_channels [] (c ∷ cs) ts h = absurd h
+served_channels (w ∷ ws) [] ts h = absurd h
+served_channels (w ∷ ws) (c ∷ cs) [] h = absurd h
+served_channels (w ∷ ws) (c ∷ cs) (t ∷ ts) h =
+    let same : t.channel ≡ channel_in w = ap (λ (x : TakeEnd Ending). x.channel) h.0.took in
+    let rest = served_channels ws cs ts h.1 in
+    λ i. same i ∷ rest i
 
-pub settled_and_put : (queues : List Queue) (epoch count : ℕ) (ws : List (WindowState Ending)) (cs : List ClosedProducerState) → count ≡ length ws → AllServed queues epoch 0 ws cs → SettledAndPut queues epoch count cs
-settled_and_put queues epoch count ws cs n h =
+-- the worker with this number, at this place: the requests that it settled, and what it took for them
+pub record WorkerAt (queues : List Queue) (epoch p place lanes : ℕ) (rs : List Request) (takes : List (TakeEnd Ending)) : Type 0 where
+  pub start : WindowState Ending
+  pub last : WindowState Ending
+  pub new : start.producer ≡ new_producer queues epoch p
+  pub settled : AreSettled rs start last
+  pub take : TakeEnd Ending
+  pub at : slice_get takes place ≡ Some take
+  pub took : take.taken ≡ taken_by rs
+  pub lanes_are : take.lanes ≡ lanes
+  pub well : IsWellTaken take.lanes take.taken
+
+pub worker_at : (queues : List Queue) (epoch b lanes : ℕ) (all : ℕ → List Request) (ts : List (TakeEnd Ending)) → WorkersSettled queues epoch all b ts → AllOfLanes lanes ts → AllWellTaken ts → (p k : ℕ) → p ≡ b + k → k < length ts
+    → WorkerAt queues epoch p k lanes (all p) ts
+worker_at queues epoch b lanes all [] settled of_lanes well p k is lt = absurd (omega (arith, lt))
+worker_at queues epoch b lanes all (t ∷ ts) settled of_lanes well p zero is lt =
+    let s = settled.0 in
+    let number : b ≡ p = omega (arith, is) in
+    record {
+      start = s.start;
+      last = s.last;
+      new = s.new ∙ ap (new_producer queues epoch) number;
+      settled = subst (λ n. AreSettled (all n) s.start s.last) number s.settled;
+      take = t;
+      at = refl;
+      took = s.took ∙ ap (λ n. taken_by (all n)) number;
+      lanes_are = of_lanes.0;
+      well = well.0;
+    }
+worker_at queues epoch b lanes all (t ∷ ts) settled of_lanes well p (suc k) is lt =
+    let r = worker_at queues epoch (b + 1) lanes all ts settled.1 of_lanes.1 well.1 p k (omega (arith, is)) (omega (arith, lt)) in
+    record { start = r.start; last = r.last; new = r.new; settled = r.settled; take = r.take; at = r.at; took = r.took; lanes_are = r.lanes_are; well = r.well }
+
+-- what is said of them
+pub record SettledAndPut (queues : List Queue) (epoch count lanes : ℕ) (cs : List ClosedProducerState) (ts : List (TakeEnd Ending)) : Type 0 where
+  pub requests : ℕ → List Request
+  pub settled : WorkersSettled queues epoch requests 0 ts
+  pub put : HavePut (λ p. named_ops epoch p 1 (all_put (requests p))) 0 cs
+  pub count_is : length ts ≡ count
+  pub of_lanes : AllOfLanes lanes ts
+  pub well : AllWellTaken ts
+
+pub settled_and_put : (queues : List Queue) (epoch count lanes : ℕ) (ws : List (WindowState Ending)) (cs : List ClosedProducerState) (ts : List (TakeEnd Ending)) (channels : List (Channel Ending)) → count ≡ length ws → AllServed queues epoch 0 ws cs ts → map receipts_in ws ≡ map (new_take lanes) channels → AllWellTaken ts
+    → SettledAndPut queues epoch count lanes cs ts
+settled_and_put queues epoch count lanes ws cs ts channels n h new well =
     let all : ℕ → List Request = λ k. get_or h.requests k [] in
     let same : (k : ℕ) → all (0 + k) ≡ get_or h.requests k [] = λ k. ap all (let z : 0 + k ≡ k = omega arith in z) in
+    let took = taken_of_all lanes h.requests ws ts channels h.took new in
     record {
       requests = all;
-      settled = settled_at queues epoch 0 count all h.requests (n ∙ sym h.count) same h.settled;
+      settled = settled_at queues epoch lanes 0 all h.requests ws ts channels same h.settled h.took new;
       put = put_at epoch 0 (λ k. all_put (all k)) (map all_put h.requests) cs (λ k. ap all_put (same k) ∙ put_of h.requests k) h.put;
+      count_is = took.count ∙ h.count ∙ sym n;
+      of_lanes = took.of_lanes;
+      well = well;
     }
 
 -- ---- one thread after another

@@ -3,6 +3,8 @@ pub mod Settling
 pub mod Batches
 pub mod Putting
 pub mod Serving
+pub mod Meeting
+pub mod Acknowledged
 pub mod Delivered
 pub mod Configs
 pub mod Workers

@@ -1,5 +1,6 @@
 -- The requests that workers settle, one after another, and what their producers have put and taken by then.
-use Rattle.std.specs.Prelude.{◌≡◌, ℕ, zero, suc, ◌+◌, List, [], ◌∷◌, ◌++◌, flat_map}
+use Rattle.std.specs.Prelude.{◌≡◌, ℕ, ◌+◌, ◌<◌, List, [], ◌∷◌, ◌++◌, flat_map}
+use Rattle.relay_action.specs.declared.operation.Op.{Op}
 use Rattle.relay_queue.specs.Ends.{Queue}
 use Rattle.relay_producer.specs.Ends.{ClosesAll}
 use Rattle.relay_producer.specs.States.{ClosedProducerState}
@@ -8,6 +9,7 @@ use Rattle.relay_receipts.specs.Windows.{WindowState}
 use Rattle.relay_receipts.specs.declared.notice.Notice.{Notice}
 use Rattle.relay_threads.specs.Relay.{new_producer}
 use Rattle.relay_run.specs.Identities.{identity_of, identity_of_closed}
+use Rattle.relay_run.specs.Readers.{named_ops}
 use Rattle.relay_front.specs.declared.ending.End.{End}
 use Rattle.relay_front.specs.Operations.{Write}
 use Rattle.relay_telling.specs.declared.ending.Ending.{Ending}
@@ -40,6 +42,10 @@ GoesOn old new = (start : WindowState Ending) → Served start old → Served st
 abbrev pub all_put : List Request → List Write
 all_put rs = flat_map (λ r. r.put) rs
 
+-- the operations that each worker put for these requests, under its producer's names
+abbrev pub ops_of : ℕ → (ℕ → List Request) → ℕ → List Op
+ops_of epoch requests p = named_ops epoch p 1 (all_put (requests p))
+
 -- the notices that were taken for these requests, in order
 abbrev pub taken_by : List Request → List (Notice Ending)
 taken_by rs = flat_map (λ r. r.heard) rs
@@ -63,10 +69,21 @@ HaveServed (w ∷ ws) [] ts = ⊥
 HaveServed (w ∷ ws) (c ∷ cs) [] = ⊥
 HaveServed (w ∷ ws) (c ∷ cs) (t ∷ ts) = HasServed w c t × HaveServed ws cs ts
 
--- the workers numbered p, p + 1 and so on, so many of them, settled these requests, each with a producer of its own, which had put
--- nothing
-abbrev pub WorkersSettled : List Queue → ℕ → (ℕ → List Request) → (count p : ℕ) → Type 0
-WorkersSettled queues epoch requests zero p = Unit {0}
-WorkersSettled queues epoch requests (suc count) p =
-    ((start : WindowState Ending) × (last : WindowState Ending) × (start.producer ≡ new_producer queues epoch p) × AreSettled (requests p) start last)
-    × WorkersSettled queues epoch requests count (p + 1)
+-- The worker with this number settled these requests, one after another, with a producer of its own, which had put nothing; and
+-- exactly what was taken for them was taken from this end of its channel.
+pub record HasSettled (queues : List Queue) (epoch p : ℕ) (requests : List Request) (receipts : TakeEnd Ending) : Type 0 where
+  pub start : WindowState Ending
+  pub last : WindowState Ending
+  pub new : start.producer ≡ new_producer queues epoch p
+  pub settled : AreSettled requests start last
+  pub took : receipts.taken ≡ taken_by requests
+
+-- the workers numbered p, p + 1 and so on, each with one of these ends, settled these requests
+abbrev pub WorkersSettled : List Queue → ℕ → (ℕ → List Request) → ℕ → List (TakeEnd Ending) → Type 0
+WorkersSettled queues epoch requests p [] = Unit {0}
+WorkersSettled queues epoch requests p (t ∷ ts) =
+    HasSettled queues epoch p (requests p) t × WorkersSettled queues epoch requests (p + 1) ts
+
+-- for the ones and for the others the same was put by each of so many workers
+abbrev pub HaveSamePuts : ℕ → (ones others : ℕ → List Request) → Type 0
+HaveSamePuts count ones others = (p : ℕ) → p < count → all_put (ones p) ≡ all_put (others p)

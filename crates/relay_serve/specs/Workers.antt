@@ -2,7 +2,7 @@
 use Rattle.std.specs.Prelude.{◌≡◌, List, [], ◌∷◌}
 use Rattle.std.specs.declared.thread.PromisedHandle.{PromisedHandle}
 use Rattle.relay_producer.specs.States.{ProducerState, ClosedProducerState}
-use Rattle.relay_receipts.specs.Ends.{TakeEnd}
+use Rattle.relay_receipts.specs.Ends.{Channel, TakeEnd}
 use Rattle.relay_receipts.specs.Windows.{WindowState}
 use Rattle.relay_telling.specs.declared.ending.Ending.{Ending}
 use Rattle.relay_serve.specs.declared.workers.WorkerPromise.{WorkerPromise}
@@ -17,6 +17,13 @@ AreUnused (p ∷ ps) (t ∷ ts) = (p.put ≡ 0) × (t.taken ≡ []) × AreUnused
 -- the producer itself
 abbrev pub producer_in : WindowState Ending → ProducerState
 producer_in w = w.producer
+
+-- its end of the channel of its receipts, and the channel
+abbrev pub receipts_in : WindowState Ending → TakeEnd Ending
+receipts_in w = w.receipts
+
+abbrev pub channel_in : WindowState Ending → Channel Ending
+channel_in w = w.receipts.channel
 
 -- what a worker's thread was given
 abbrev pub given_to : PromisedHandle (ClosedProducerState × TakeEnd Ending) WorkerPromise → WindowState Ending

@@ -10,6 +10,7 @@ pub mod board;
 mod client;
 mod counts;
 pub mod epoch;
+mod meeting;
 mod metrics;
 pub mod options;
 mod producing;

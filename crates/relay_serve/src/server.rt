@@ -178,6 +178,10 @@ fn say_stopped<E: ByteOut>(stopped: Stopped, err: &mut E) -> Exit {
             say_line(err, "no random numbers");
             Exit::Device
         }
+        Stopped::Untold => {
+            say_line(err, "a lane could not tell a worker");
+            Exit::Device
+        }
         Stopped::Finish(fault) => match fault.kind {
             FinishFaultKind::LaneMemory | FinishFaultKind::Memory => {
                 say_line(err, "a lane ran out of memory");
@@ -256,7 +260,7 @@ where
     wake(host, local, options.listen.as_str());
     accepting.join(&rt);
     match served {
-        Ok(summary) => {
+        Ok((summary, _)) => {
             let text = counts_text(alloc, count_all(summary))?;
             say(out, text.as_slice());
             if shared.has_failed() {

@@ -1,20 +1,22 @@
 //! The lanes and the workers of a server, from their start to their end.
-ghost use Rattle.std.specs.Prelude.{◌≡◌, ◌≤◌, IfOk, IsTrue, map, string_bytes, vec_len};
+ghost use Rattle.std.specs.Prelude.{◌≡◌, ◌≤◌, IfOk, IsTrue, length, map, string_bytes, vec_len};
 ghost use Rattle.relay_http.specs.WrittenRequest.{is_host};
+ghost use Rattle.relay_telling.specs.New.{new_take, AreNewTells};
 ghost use Rattle.relay_threads.specs.Relay.{AreNew, NoneOut, new_control};
 ghost use Rattle.relay_wires.specs.Numbers.{numbers};
 ghost use Rattle.relay_serve.specs.Configs.{config_in};
 ghost use Rattle.relay_serve.specs.Delivered.{IsDelivered};
-ghost use Rattle.relay_serve.specs.Workers.{producer_in};
+ghost use Rattle.relay_serve.specs.Workers.{channel_in, producer_in, receipts_in};
 
 use crate::board::Shared;
+use crate::meeting::meet_all;
 use crate::options::ServeOptions;
 use crate::stopped::Stopped;
 use crate::wiring::{TcpWire, config_of, make_paces, make_wires, window_of};
 use crate::workers::{Connections, pair_up, run_workers};
 use relay_lane::Wire;
 use relay_producer::{Control, Producer};
-use relay_receipts::{ReceiptTake, WindowedProducer};
+use relay_receipts::{ReceiptTake, TakenReceipts, WindowedProducer};
 use relay_telling::{Ending, LaneTells, telling};
 use relay_threads::{Relay, Summary};
 use std::alloc::Global;
@@ -48,6 +50,10 @@ where
     ensures wires { IfOk result (λ r. NoneOut (λ w. numbers w.out) r.0.wires) }
     ensures count { IfOk result (λ r. vec_len r.1 ≡ r.0.config.producers) }
     ensures control { IfOk result (λ r. r.2 ≡ new_control r.0.queues r.0.config.producers) }
+    ensures receipts { IfOk result (λ r. map receipts_in r.1.items
+        ≡ map (new_take r.0.config.lanes) (map channel_in r.1.items)) }
+    ensures tells { IfOk result (λ r. AreNewTells (map channel_in r.1.items) 0 r.0.tells) }
+    ensures lanes { IfOk result (λ r. length r.0.tells ≡ r.0.config.lanes) }
 {
     let config = config_of(options.config, epoch);
     let window = window_of(config.producers);
@@ -65,7 +71,10 @@ where
 ///
 /// If the lanes have finished, there are requests for each worker that it has settled, one after
 /// another, and each lane took exactly those of their writes on its documents that were put, and
-/// delivered them as `Relay::finish` says, each lane and all lanes together.
+/// delivered them as `Relay::finish` says, each lane and all lanes together. It returns what the
+/// workers took from their channels. Whatever requests they settled by which they put and took just
+/// that: an end of a write that says how it ended says what the lane of its document told of that
+/// very operation, and is true.
 pub(crate) fn serve_epoch<R>(
     rt: R,
     host: &HostRuntime,
@@ -74,17 +83,17 @@ pub(crate) fn serve_epoch<R>(
     epoch: u32,
     shared: &Shared,
     connections: &Connections,
-) -> Result<Summary<TcpWire>, Stopped>
+) -> Result<(Summary<TcpWire>, Vec<TakenReceipts<Ending>>), Stopped>
 where
     R: Threads + Wait + Clock + Copy + Send + 'static,
     requires host { IsTrue (is_host (string_bytes options.now.to)) }
     requires lanes { options.now.config.lanes ≤ 8 }
-    ensures delivered { IfOk result (λ s. IsDelivered ⟦<TcpWire as Wire>⟧.describes
+    ensures delivered { IfOk result (λ r. IsDelivered ⟦<TcpWire as Wire>⟧.describes
         ⟦<TcpWire as Wire>⟧.fits ⟦<TcpWire as Wire>⟧.carries (λ w. numbers w.out)
-        (config_in epoch options.now.config) s.lanes.items) }
+        (config_in epoch options.now.config) r.1.items r.0.lanes.items) }
 {
     let (relay, producers, control) = start(rt, host, alloc, options, epoch, shared)?;
-    let (closed, _receipts, control) = run_workers(
+    let (closed, receipts, control) = run_workers(
         rt,
         host,
         alloc,
@@ -94,8 +103,10 @@ where
         shared,
         connections,
     )?;
-    match relay.finish(&rt, closed, control) {
-        Ok(summary) => Ok(summary),
-        Err(fault) => Err(Stopped::Finish(fault)),
-    }
+    let (summary, tells) = match relay.finish_telling(&rt, closed, control) {
+        Ok(finished) => finished,
+        Err(fault) => return Err(Stopped::Finish(fault)),
+    };
+    let taken = meet_all(alloc, receipts, tells)?;
+    Ok((summary, taken))
 }

@@ -9,6 +9,9 @@ pub(crate) enum Stopped {
     Start(StartFault),
     /// A lane did not finish.
     Finish(FinishFault),
+    /// A lane could not tell a worker how an operation ended, and what it told that worker is not
+    /// known.
+    Untold,
     /// The system gave no random numbers.
     Random,
 }

@@ -2,7 +2,7 @@
 ghost use Rattle.std.specs.Prelude.{◌≡◌, ◌<◌, ◌≤◌, IfOk, map};
 ghost use Rattle.relay_producer.specs.Ends.{identities, open_puts, closed_puts};
 ghost use Rattle.relay_serve.specs.Serving.{HaveServed};
-ghost use Rattle.relay_serve.specs.Workers.{AreUnused, given_to, producer_in};
+ghost use Rattle.relay_serve.specs.Workers.{AreUnused, given_to, producer_in, receipts_in};
 
 use crate::board::{Shared, share};
 use crate::client::Client;
@@ -64,7 +64,8 @@ pub(crate) fn pair_up(
 ) -> Result<Vec<WindowedProducer<Ending>>, AllocError>
     requires unused { AreUnused producers.items takes.items }
     requires window { (0 < window) × (window ≤ 65536) }
-    ensures { IfOk result (λ v. map producer_in v.items ≡ producers.items) }
+    ensures producers { IfOk result (λ v. map producer_in v.items ≡ producers.items) }
+    ensures receipts { IfOk result (λ v. map receipts_in v.items ≡ takes.items) }
 {
     let mut paired = Vec::new(alloc);
     let mut takes = takes.into_iter();

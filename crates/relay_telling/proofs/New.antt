@@ -5,6 +5,7 @@ use Rattle.std.proofs.lemmas.List.{map-append}
 use Rattle.relay_receipts.specs.Ends.{Channel, TellEnd, TakeEnd, fresh, fresh_tells}
 use Rattle.relay_telling.specs.declared.ending.Ending.{Ending}
 use Rattle.relay_telling.specs.declared.lane_tells.LaneTells.{LaneTells}
+use Rattle.relay_telling.specs.Destinations.{identities, ends_of, TellOn}
 use Rattle.relay_telling.specs.New.{channels_of, new_take, new_end, AreNewTells, FirstHave}
 
 pub first_none : (channel : Channel Ending) (lane : ℕ) (ts : List LaneTells) → FirstHave channel lane zero ts ts
@@ -32,6 +33,24 @@ first_all channels channel lane n (x ∷ xs) [] a h e = absurd h
 first_all channels channel lane zero (x ∷ xs) (y ∷ ys) a h e = absurd (omega (arith, e))
 first_all channels channel lane (suc n) (x ∷ xs) (y ∷ ys) a h e =
     (h.0 ∙ ap (λ l. l ++ new_end lane channel ∷ []) a.0 ∙ sym (map-append (new_end lane) channels (channel ∷ [])), first_all channels channel (lane + 1) n xs ys a.1 h.1 (omega (arith, e)))
+
+-- ---- after they told
+
+identities_new : (lane : ℕ) (channels : List (Channel Ending)) → identities (map (new_end lane) channels) ≡ ends_of lane channels
+identities_new lane [] = refl
+identities_new lane (c ∷ cs) = ap (λ l. (c, lane) ∷ l) (identities_new lane cs)
+
+-- lanes whose ends were new at the start tell by the same ends, whatever they told
+pub tell_on : (channels : List (Channel Ending)) (lane : ℕ) (olds nows : List LaneTells) → AreNewTells channels lane olds → map (λ (t : LaneTells). identities t.ends.items) nows ≡ map (λ (t : LaneTells). identities t.ends.items) olds → TellOn channels lane nows
+tell_on channels lane [] [] a e = tt
+tell_on channels lane [] (y ∷ ys) a e = absurd (cc (e))
+tell_on channels lane (x ∷ xs) [] a e = absurd (cc (e))
+tell_on channels lane (x ∷ xs) (y ∷ ys) a e =
+    let here : identities y.ends.items ≡ identities x.ends.items = cc in
+    let there : map (λ (t : LaneTells). identities t.ends.items) ys ≡ map (λ (t : LaneTells). identities t.ends.items) xs = cc in
+    (here ∙ ap identities a.0 ∙ identities_new lane channels, tell_on channels (lane + 1) xs ys a.1 there)
+
+-- ---- one after another
 
 -- before there is a producer
 pub new_row : (lane : ℕ) (ts : List LaneTells) (t : LaneTells) → AreNewTells [] lane ts → t.ends.items ≡ [] → AreNewTells [] lane (ts ++ t ∷ [])

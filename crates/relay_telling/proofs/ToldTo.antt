@@ -2,6 +2,7 @@
 use Rattle.std.proofs.Common.{◌≡◌, ◌≢◌, ℕ, zero, suc, ◌+◌, ◌<◌, ◌≤◌, Bool, true, false, eqb, List, [], ◌∷◌, ◌++◌, length, set, get_or, take, Option, None, refl, sym, ap, ◌∙◌, subst, ⊎_elim, append_assoc, append-nil, arith}
 use Rattle.std.specs.Prelude.{◌==◌}
 use Rattle.std.specs.List.{filter_map}
+use Rattle.std.proofs.Math.Seq.{map-set_same}
 use Rattle.std.proofs.lemmas.Bool.Decides.{eqb_tells}
 use Rattle.std.proofs.lemmas.List.{take_more}
 use Rattle.std.proofs.lemmas.List.Elements.{filter-append, filter_map-append}
@@ -14,6 +15,7 @@ use Rattle.relay_threads.specs.Told.{Told, applied_of, reports_of, AddsApplied, 
 use Rattle.relay_telling.specs.declared.ending.Ending.{Ending}
 use Rattle.relay_telling.specs.declared.ending.Ending.TheVariants.{Applied, Reported}
 use Rattle.relay_telling.specs.declared.lane_tells.ProducerTell.{ProducerTell}
+use Rattle.relay_telling.specs.Destinations.{identity, identities}
 use Rattle.relay_telling.specs.Endings.{success_in, report_in, told_in}
 use Rattle.relay_telling.specs.Shown.{unless_gone, shown_by, shown_at, TellsOne, AddsEnding, TellsTo}
 
@@ -28,18 +30,29 @@ adds_ending ending old new h = adds ending old.gone new.gone old.tell.told new.t
 
 -- ---- all ends
 
-pub tells_at : (es : List ProducerTell) (k : ℕ) (e e' : ProducerTell) (ending : Ending) → k < length es → e ≡ get_or es k e → TellsOne ending e e' → TellsTo k ending es (set es k e')
-tells_at [] k e e' ending lt is h = absurd (omega (arith, lt))
-tells_at (x ∷ es) zero e e' ending lt is h = (subst (λ y. AddsEnding ending (shown_by y) (shown_by e')) is (adds_ending ending e e' h), others) where
+-- the ends are as they were, if the one at this place is
+pub same_ends : (es : List ProducerTell) (k : ℕ) (e e' : ProducerTell) → e ≡ get_or es k e → identity e' ≡ identity e → identities (set es k e') ≡ identities es
+same_ends es k e e' is same = map-set_same identity es k e' e (same ∙ ap identity is)
+
+-- the producer at this place is told, and the others are not
+tells_only : (es : List ProducerTell) (k : ℕ) (e e' : ProducerTell) (ending : Ending) → k < length es → e ≡ get_or es k e → TellsOne ending e e'
+    → AddsEnding ending (shown_at es k) (shown_at (set es k e') k) × ((p : ℕ) → p ≢ k → AddsNothing (shown_at es p) (shown_at (set es k e') p))
+tells_only [] k e e' ending lt is h = absurd (omega (arith, lt))
+tells_only (x ∷ es) zero e e' ending lt is h = (subst (λ y. AddsEnding ending (shown_by y) (shown_by e')) is (adds_ending ending e e' h), others) where
   others : (p : ℕ) → p ≢ zero → AddsNothing (shown_at (x ∷ es) p) (shown_at (e' ∷ es) p)
   others zero n = absurd (n refl)
   others (suc q) n = λ all s. s
-tells_at (x ∷ es) (suc k) e e' ending lt is h =
-    let r = tells_at es k e e' ending (omega (arith, lt)) is h in
+tells_only (x ∷ es) (suc k) e e' ending lt is h =
+    let r = tells_only es k e e' ending (omega (arith, lt)) is h in
     (r.0, others k e' (λ p n. r.1 p n)) where
       others : (k : ℕ) (e' : ProducerTell) → ((p : ℕ) → p ≢ k → AddsNothing (shown_at es p) (shown_at (set es k e') p)) → (p : ℕ) → p ≢ suc k → AddsNothing (shown_at (x ∷ es) p) (shown_at (x ∷ set es k e') p)
       others k e' r zero n = λ all s. s
       others k e' r (suc q) n = r q (λ e. n (ap suc e))
+
+pub tells_at : (es : List ProducerTell) (k : ℕ) (e e' : ProducerTell) (ending : Ending) → k < length es → e ≡ get_or es k e → TellsOne ending e e' → TellsTo k ending es (set es k e')
+tells_at es k e e' ending lt is h =
+    let r = tells_only es k e e' ending lt is h in
+    (r.0, r.1, same_ends es k e e' is h.same)
 
 -- nobody is at a place past the ends
 nobody_past : (es : List ProducerTell) (k : ℕ) → length es ≤ k → shown_at es k ≡ None
@@ -48,7 +61,7 @@ nobody_past (x ∷ es) zero e = absurd (omega (arith, e))
 nobody_past (x ∷ es) (suc k) e = nobody_past es k (omega (arith, e))
 
 pub tells_nobody : (es : List ProducerTell) (k : ℕ) (ending : Ending) → length es ≤ k → TellsTo k ending es es
-tells_nobody es k ending e = ((λ all s. absurd (none_some all (sym (nobody_past es k e) ∙ s))), λ p apart all s. s)
+tells_nobody es k ending e = ((λ all s. absurd (none_some all (sym (nobody_past es k e) ∙ s))), (λ p apart all s. s), refl)
 
 -- the same is shown by an end that closed
 pub closes_at : (es : List ProducerTell) (k : ℕ) (e e' : ProducerTell) → k < length es → e ≡ get_or es k e → e'.tell.told ≡ e.tell.told → e'.gone ≡ e.gone → (p : ℕ) → shown_at (set es k e') p ≡ shown_at es p

@@ -1,3 +1,4 @@
+pub mod Destinations
 pub mod Endings
 pub mod Shown
 pub mod New

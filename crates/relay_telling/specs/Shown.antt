@@ -3,6 +3,7 @@ use Rattle.std.specs.Prelude.{◌≡◌, ◌≢◌, ℕ, zero, suc, Bool, true, 
 use Rattle.relay_threads.specs.Told.{Told, AddsNothing}
 use Rattle.relay_telling.specs.declared.ending.Ending.{Ending}
 use Rattle.relay_telling.specs.declared.lane_tells.ProducerTell.{ProducerTell}
+use Rattle.relay_telling.specs.Destinations.{identity, identities}
 use Rattle.relay_telling.specs.Endings.{told_in}
 
 -- what was told to a producer, unless some of it was lost
@@ -19,18 +20,20 @@ shown_at [] p = None
 shown_at (e ∷ es) zero = shown_by e
 shown_at (e ∷ es) (suc p) = shown_at es p
 
--- unless it is lost, this was told besides
+-- unless it is lost, this was told besides, by the same end
 pub record TellsOne (ending : Ending) (old new : ProducerTell) : Type 0 where
   pub gone : new.gone ≡ false → old.gone ≡ false
   pub told : new.gone ≡ false → new.tell.told ≡ old.tell.told ++ ending ∷ []
+  pub same : identity new ≡ identity old
 
 -- what is shown to be told was shown before, without this ending
 abbrev pub AddsEnding : Ending → Option Told → Option Told → Type 0
 AddsEnding ending old new =
     (all : Told) → new ≡ Some all → (told : List Ending) × (old ≡ Some (told_in told)) × (all ≡ told_in (told ++ ending ∷ []))
 
--- one producer was told of this ending, and the others of nothing
+-- one producer was told of this ending, and the others of nothing, by the same ends
 abbrev pub TellsTo : ℕ → Ending → List ProducerTell → List ProducerTell → Type 0
 TellsTo producer ending old new =
     AddsEnding ending (shown_at old producer) (shown_at new producer)
     × ((p : ℕ) → p ≢ producer → AddsNothing (shown_at old p) (shown_at new p))
+    × (identities new ≡ identities old)

@@ -4,6 +4,7 @@ ghost use Rattle.relay_core.specs.Walk.{report_of};
 ghost use Rattle.relay_receipts.specs.Ends.{Channel, fresh_tells};
 ghost use Rattle.relay_telling.specs.declared.ending.Ending.{Ending};
 ghost use Rattle.relay_threads.specs.Told.{AddsApplied, AddsReport, AddsNothing};
+ghost use Rattle.relay_telling.specs.Destinations.{identity, identities};
 ghost use Rattle.relay_telling.specs.New.{channels_of, new_take, AreNewTells, FirstHave};
 ghost use Rattle.relay_telling.specs.Shown.{shown_at, TellsOne, TellsTo};
 
@@ -35,7 +36,8 @@ impl ProducerTell {
 
     // Tells the producer that the lane tells no more.
     fn close<R: Wait>(&mut self, rt: &R)
-        ensures { (self.new.tell.told ≡ self.old.tell.told) × (self.new.gone ≡ self.old.gone) }
+        ensures { (self.new.tell.told ≡ self.old.tell.told) × (self.new.gone ≡ self.old.gone)
+            × (identity self.new ≡ identity self.old) }
     {
         let _ = self.tell.close(rt);
     }
@@ -43,7 +45,7 @@ impl ProducerTell {
 
 /// A lane's ends of the channels of all producers, by producer, by which it tells each how its
 /// operations ended. It shows what was told to a producer, unless some of that was lost since the
-/// producer is gone.
+/// producer is gone. It tells where its ends do: each on its channel, as an end of its lane.
 #[derive(Drop)]
 pub struct LaneTells {
     /// The ends, by producer.
@@ -63,8 +65,9 @@ impl LaneTells {
 
     // Tells of an operation that ended as applied.
     fn tell_applied<R: Wait>(&mut self, rt: &R, success: &Success)
-        ensures { (p : ℕ) → AddsApplied p (success.now ∷ [])
+        ensures told { (p : ℕ) → AddsApplied p (success.now ∷ [])
             (shown_at self.old.ends.items p) (shown_at self.new.ends.items p) }
+        ensures same { identities self.new.ends.items ≡ identities self.old.ends.items }
     {
         let success = *success;
         self.tell(rt, success.name.producer, Ending::Applied(success));
@@ -72,9 +75,17 @@ impl LaneTells {
 }
 
 impl Tell for LaneTells {
+    ghost use Rattle.std.specs.Prelude.{ℕ, List};
+    ghost use Rattle.relay_receipts.specs.Ends.{Channel};
+    ghost use Rattle.relay_telling.specs.declared.ending.Ending.{Ending};
+    ghost use Rattle.relay_telling.specs.Destinations.{identities};
     ghost use Rattle.relay_telling.specs.Shown.{shown_at};
 
     ghost told = { λ t p. shown_at t.ends.items p };
+
+    ghost Destination = { List (Channel Ending × ℕ) };
+
+    ghost destination = { λ t. identities t.ends.items };
 
     fn applied<R: Wait>(&mut self, rt: &R, successes: &[Success]) {
         for success in successes {

@@ -32,6 +32,8 @@ use Rattle.relay_threads.specs.Ending.{FinishedLane, AllFinished}
 use Rattle.relay_threads.proofs.Popping.{long_map}
 use Rattle.relay_threads.proofs.Summing.{row_long}
 use Rattle.relay_threads.specs.DeliveryOfAll.{HavePut, DeliveredLane, AllDelivered}
+use Rattle.relay_threads.specs.Told.{Told}
+use Rattle.relay_threads.specs.ToldAll.{ToldLane, AllTold, ToldOfPuts, AllToldOfPuts}
 
 -- ---- operations of one producer
 
@@ -240,15 +242,25 @@ are_long qs p lanes (c ∷ cs) k n own = (long_map end_of c.ends ∙ row_long qs
 
 -- ---- lanes
 
+long_ends : (xs : List ClosedProducerState) → length (map (λ (x : ClosedProducerState). x.ends) xs) ≡ length xs
+long_ends [] = refl
+long_ends (x ∷ xs) = ap suc (long_ends xs)
+
+-- what a lane took is what was put for it
+of_lane : (c : RelayConfig) (puts : ℕ → List Op) (cs : List ClosedProducerState) (k : ClosedControlState) (lane : ℕ) (ms : List Mail) → length cs ≡ c.producers → AreLong c.lanes cs → HavePut puts 0 cs → HaveNoPuts (closed_puts k.ends)
+    → AreMetAt lane 0 ms (rows_of cs k) → ((sender : ℕ) → length (rows_of cs k) ≤ sender → mail_of sender ms ≡ []) → OfAll c.lanes lane c.producers puts ms
+of_lane c puts cs k lane ms n long h none met no_other =
+    let rows : length (rows_of cs k) ≡ length cs + 1 = length-append (map (λ (x : ClosedProducerState). x.ends) cs) (k.ends ∷ []) ∙ ap (λ m. m + 1) (long_ends cs) in
+    of_all c.lanes lane c.producers puts ms (λ q lt. of_senders c.lanes lane 0 puts ms cs k long h met q (omega arith) (omega (arith, lt, n)))
+    (λ q le. ⊎_elim (λ (l : q < c.producers). absurd (let x : ⊥ = omega (arith, l, le) in x))
+    (λ (r : (q ≡ c.producers) ⊎ (c.producers < q)).
+    ⊎_elim (λ (e : q ≡ c.producers). of_control lane 0 ms cs k none met q (omega (arith, e, n)))
+    (λ (g : c.producers < q). ap puts_of (no_other q (omega (arith, g, rows, n)))) r) (split q c.producers))
+
 module _ {W : Type 0} (describes : W → Bool) (fits : W → Outside → Type 0) (carries : W → Exchange → W → Type 0) (c : RelayConfig) (puts : ℕ → List Op) (cs : List ClosedProducerState) (k : ClosedControlState) where
   one_delivered : (lane : ℕ) (w : W) (s : LaneSummary W) → length cs ≡ c.producers → AreLong c.lanes cs → HavePut puts 0 cs → HaveNoPuts (closed_puts k.ends) → FinishedLane describes fits carries c (rows_of cs k) lane w s → DeliveredLane describes fits carries c puts (rows_of cs k) lane w s
   one_delivered lane w s n long h none f =
-      let rows : length (rows_of cs k) ≡ length cs + 1 = length-append (map (λ (x : ClosedProducerState). x.ends) cs) (k.ends ∷ []) ∙ ap (λ m. m + 1) (long_ends cs) in
-      let all = of_all c.lanes lane c.producers puts f.messages (λ q lt. of_senders c.lanes lane 0 puts f.messages cs k long h f.met q (omega arith) (omega (arith, lt, n)))
-      (λ q le. ⊎_elim (λ (l : q < c.producers). absurd (let x : ⊥ = omega (arith, l, le) in x))
-      (λ (r : (q ≡ c.producers) ⊎ (c.producers < q)).
-      ⊎_elim (λ (e : q ≡ c.producers). of_control lane 0 f.messages cs k none f.met q (omega (arith, e, n)))
-      (λ (g : c.producers < q). ap puts_of (f.no_other q (omega (arith, g, rows, n)))) r) (split q c.producers)) in
+      let all = of_lane c puts cs k lane f.messages n long h none f.met f.no_other in
       record {
         finished = f;
         own = all.own;
@@ -256,13 +268,30 @@ module _ {W : Type 0} (describes : W → Bool) (fits : W → Outside → Type 0)
         explained = f.explained all.distinct;
         explained_if_stated = f.explained_if_stated all.distinct;
         delivers = f.delivers all.distinct;
-      } where
-        long_ends : (xs : List ClosedProducerState) → length (map (λ (x : ClosedProducerState). x.ends) xs) ≡ length xs
-        long_ends [] = refl
-        long_ends (x ∷ xs) = ap suc (long_ends xs)
+      }
 
   pub all_delivered : (lane : ℕ) (ws : List W) (ss : List (LaneSummary W)) → length cs ≡ c.producers → AreLong c.lanes cs → HavePut puts 0 cs → HaveNoPuts (closed_puts k.ends) → AllFinished describes fits carries c (rows_of cs k) lane ws ss → AllDelivered describes fits carries c puts (rows_of cs k) lane ws ss
   all_delivered lane [] [] n long h none f = tt
   all_delivered lane [] (s ∷ ss) n long h none f = absurd f
   all_delivered lane (w ∷ ws) [] n long h none f = absurd f
   all_delivered lane (w ∷ ws) (s ∷ ss) n long h none f = (one_delivered lane w s n long h none f.0, all_delivered (lane + 1) ws ss n long h none f.1)
+
+-- ---- what they told
+
+module _ {W T : Type 0} (describes : W → Bool) (fits : W → Outside → Type 0) (carries : W → Exchange → W → Type 0) (told : T → ℕ → Option Told) (c : RelayConfig) (puts : ℕ → List Op) (cs : List ClosedProducerState) (k : ClosedControlState) where
+  one_told_of : (lane : ℕ) (w : W) (f t : T) (s : LaneSummary W) → length cs ≡ c.producers → AreLong c.lanes cs → HavePut puts 0 cs → HaveNoPuts (closed_puts k.ends) → ToldLane describes fits carries told c (rows_of cs k) lane w f t s → ToldOfPuts describes fits carries told c puts (rows_of cs k) lane w f t s
+  one_told_of lane w f t s n long h none x =
+      let all = of_lane c puts cs k lane x.messages n long h none x.met x.no_other in
+      record { lane_told = x; own = all.own; none_besides = all.no_other; distinct = all.distinct }
+
+  pub all_told_of : (lane : ℕ) (ws : List W) (fs ts : List T) (ss : List (LaneSummary W)) → length cs ≡ c.producers → AreLong c.lanes cs → HavePut puts 0 cs → HaveNoPuts (closed_puts k.ends) → AllTold describes fits carries told c (rows_of cs k) lane ws fs ts ss
+      → AllToldOfPuts describes fits carries told c puts (rows_of cs k) lane ws fs ts ss
+  all_told_of lane [] [] [] [] n long h none x = tt
+  all_told_of lane [] [] [] (s ∷ ss) n long h none x = absurd x
+  all_told_of lane [] [] (t ∷ ts) ss n long h none x = absurd x
+  all_told_of lane [] (f ∷ fs) ts ss n long h none x = absurd x
+  all_told_of lane (w ∷ ws) [] ts ss n long h none x = absurd x
+  all_told_of lane (w ∷ ws) (f ∷ fs) [] ss n long h none x = absurd x
+  all_told_of lane (w ∷ ws) (f ∷ fs) (t ∷ ts) [] n long h none x = absurd x
+  all_told_of lane (w ∷ ws) (f ∷ fs) (t ∷ ts) (s ∷ ss) n long h none x =
+      (one_told_of lane w f t s n long h none x.0, all_told_of (lane + 1) ws fs ts ss n long h none x.1)

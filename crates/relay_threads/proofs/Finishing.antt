@@ -14,7 +14,7 @@ use Rattle.relay_delivery.proofs.Explained.{explained_sound, explained_complete}
 use Rattle.relay_delivery.specs.Stating.{BeginsBeside, StatesVersions}
 use Rattle.relay_delivery.proofs.Stating.{explained_sound_if_stated, explained_complete_if_stated}
 use Rattle.relay_queue.specs.Ends.{Queue}
-use Rattle.relay_queue.specs.Messages.{IsWellTaken}
+use Rattle.relay_queue.specs.Messages.{IsWellTaken, mail_of}
 use Rattle.relay_core.specs.declared.config.RelayConfig.{RelayConfig}
 use Rattle.relay_core.specs.State.{config_of}
 use Rattle.relay_core.specs.declared.success.Success.{Success}
@@ -279,8 +279,8 @@ module _ {W T : Type 0} (describes : W → Bool) (fits : W → Outside → Type 
     truly = truly ops applied reported e s g.goes_on.outside is sum all g.truly;
   }
 
-  one_told : (rows : List (List ClosedEnd)) (lane : ℕ) (q : Queue) (w : W) (e : LaneEnd W) (first last : T) (s : LaneSummary W) → e.kind ≡ Finished → EndsOn describes fits carries c q w e → KeepsTold describes fits carries told c w first last e → AreMetAt lane 0 e.taken.taken rows → SumsUp e s → ToldLane describes fits carries told c rows lane w first last s
-  one_told rows lane q w e first last s f on k met sum =
+  one_told : (rows : List (List ClosedEnd)) (lane : ℕ) (q : Queue) (w : W) (e : LaneEnd W) (first last : T) (s : LaneSummary W) → length rows ≡ c.producers + 1 → e.kind ≡ Finished → EndsOn describes fits carries c q w e → KeepsTold describes fits carries told c w first last e → AreMetAt lane 0 e.taken.taken rows → SumsUp e s → ToldLane describes fits carries told c rows lane w first last s
+  one_told rows lane q w e first last s long f on k met sum =
       let none = on.ends.none_held f in
       let all = heard_whole describes fits carries c e.kind e.taken.taken k.messages f k.heard in
       let conf : e.lane.state.config ≡ c = k.has_told.course.config in
@@ -293,6 +293,7 @@ module _ {W T : Type 0} (describes : W → Bool) (fits : W → Outside → Type 
       record {
         messages = k.messages;
         met = subst (λ m. AreMetAt lane 0 m rows) all met;
+        no_other = λ sender le. ap (mail_of sender) (sym all) ∙ on.well_taken.no_other sender (omega (arith, long, le));
         applied = h.applied;
         shown = subst (Shows (told first) (told last) h.applied) reports h.shown;
         once = λ n.
@@ -323,20 +324,20 @@ module _ {W T : Type 0} (describes : W → Bool) (fits : W → Outside → Type 
         described = λ distinct is o fit opening below. leads_to_truly ops calls.calls h.applied h.reported e s o conf none sum distinct reports (k.described distinct is o fit opening below);
       }
 
-  pub all_told_to : (rows : List (List ClosedEnd)) (lane : ℕ) (qs : List Queue) (ws : List W) (fs : List T) (es : List (LaneEnd W)) (ts : List T) (ss : List (LaneSummary W)) → AllEndOn describes fits carries c qs ws es → AllKinds describes fits carries c es → AllEndTold ws fs es ts → AllSumUp rows lane es ss
+  pub all_told_to : (rows : List (List ClosedEnd)) (lane : ℕ) (qs : List Queue) (ws : List W) (fs : List T) (es : List (LaneEnd W)) (ts : List T) (ss : List (LaneSummary W)) → length rows ≡ c.producers + 1 → AllEndOn describes fits carries c qs ws es → AllKinds describes fits carries c es → AllEndTold ws fs es ts → AllSumUp rows lane es ss
       → AllTold describes fits carries told c rows lane ws fs ts ss
-  all_told_to rows lane qs [] [] [] [] [] a k t s = tt
-  all_told_to rows lane qs [] [] [] [] (x ∷ ss) a k t s = absurd s
-  all_told_to rows lane qs [] [] [] (t' ∷ ts) ss a k t s = absurd t
-  all_told_to rows lane qs [] [] (e ∷ es) ts ss a k t s = absurd t
-  all_told_to rows lane qs [] (f ∷ fs) es ts ss a k t s = absurd t
-  all_told_to rows lane qs (w ∷ ws) [] es ts ss a k t s = absurd t
-  all_told_to rows lane qs (w ∷ ws) (f ∷ fs) [] ts ss a k t s = absurd t
-  all_told_to rows lane qs (w ∷ ws) (f ∷ fs) (e ∷ es) [] ss a k t s = absurd t
-  all_told_to rows lane qs (w ∷ ws) (f ∷ fs) (e ∷ es) (t' ∷ ts) [] a k t s = absurd s
-  all_told_to rows lane [] (w ∷ ws) (f ∷ fs) (e ∷ es) (t' ∷ ts) (x ∷ ss) a k t s = absurd a
-  all_told_to rows lane (q ∷ qs) (w ∷ ws) (f ∷ fs) (e ∷ es) (t' ∷ ts) (x ∷ ss) a k t s =
-      (one_told rows lane q w e f t' x k.0 a.0 t.0 s.0.0 s.0.1, all_told_to rows (lane + 1) qs ws fs es ts ss a.1 k.1 t.1 s.1)
+  all_told_to rows lane qs [] [] [] [] [] n a k t s = tt
+  all_told_to rows lane qs [] [] [] [] (x ∷ ss) n a k t s = absurd s
+  all_told_to rows lane qs [] [] [] (t' ∷ ts) ss n a k t s = absurd t
+  all_told_to rows lane qs [] [] (e ∷ es) ts ss n a k t s = absurd t
+  all_told_to rows lane qs [] (f ∷ fs) es ts ss n a k t s = absurd t
+  all_told_to rows lane qs (w ∷ ws) [] es ts ss n a k t s = absurd t
+  all_told_to rows lane qs (w ∷ ws) (f ∷ fs) [] ts ss n a k t s = absurd t
+  all_told_to rows lane qs (w ∷ ws) (f ∷ fs) (e ∷ es) [] ss n a k t s = absurd t
+  all_told_to rows lane qs (w ∷ ws) (f ∷ fs) (e ∷ es) (t' ∷ ts) [] n a k t s = absurd s
+  all_told_to rows lane [] (w ∷ ws) (f ∷ fs) (e ∷ es) (t' ∷ ts) (x ∷ ss) n a k t s = absurd a
+  all_told_to rows lane (q ∷ qs) (w ∷ ws) (f ∷ fs) (e ∷ es) (t' ∷ ts) (x ∷ ss) n a k t s =
+      (one_told rows lane q w e f t' x n k.0 a.0 t.0 s.0.0 s.0.1, all_told_to rows (lane + 1) qs ws fs es ts ss n a.1 k.1 t.1 s.1)
 
 -- ---- all that is known when the lanes have ended
 

@@ -1,11 +1,12 @@
 -- Lanes that have ended, one after another.
-use Rattle.std.proofs.Common.{◌≡◌, ℕ, List, [], ◌∷◌, ◌++◌, Bool, Option, sym, refl, ap, ◌∙◌, subst, append-nil, append_assoc}
+use Rattle.std.proofs.Common.{◌≡◌, ℕ, List, [], ◌∷◌, ◌++◌, map, Bool, Option, sym, refl, ap, ◌∙◌, subst, append-nil, append_assoc}
+use Rattle.std.proofs.lemmas.List.{map-append}
 use Rattle.relay_lane.specs.Exchanges.{Exchange}
 use Rattle.relay_results.specs.Outside.{Outside}
 use Rattle.relay_threads.specs.declared.lane_end.LaneEnd.{LaneEnd}
 use Rattle.relay_threads.specs.Promises.{KeepsCourse, KeepsTold}
 use Rattle.relay_threads.specs.Told.{Told}
-use Rattle.relay_threads.specs.Lanes.{LaneHandle, EndAsPromised, ToldAsPromised}
+use Rattle.relay_threads.specs.Lanes.{LaneHandle, tells_of, EndAsPromised, ToldAsPromised}
 
 module _ {W T : Type 0} (describes : W → Bool) (fits : W → Outside → Type 0) (carries : W → Exchange → W → Type 0) (told : T → ℕ → Option Told) where
   -- the first of these lanes have ended, and the others are left
@@ -49,3 +50,22 @@ module _ {W T : Type 0} (describes : W → Bool) (fits : W → Outside → Type 
 
   pub joins_told : (lanes left : List (LaneHandle W T)) (ends : List (LaneEnd W)) (tells : List T) → JoinsOn lanes left ends tells → left ≡ [] → ToldAsPromised describes fits carries told lanes ends tells
   joins_told lanes left ends tells j none = subst (λ l. ToldAsPromised describes fits carries told l ends tells) (joined_all lanes left ends tells j none) j.has_told
+
+-- ---- where what they told by tells
+
+module _ {W T D : Type 0} (destination : T → D) where
+  pub stays_none : (lanes left : List (LaneHandle W T)) (tells : List T) → tells ≡ [] → left ≡ lanes → map destination tells ++ map destination (tells_of left) ≡ map destination (tells_of lanes)
+  stays_none lanes left tells none all = ap (λ l. map destination l ++ map destination (tells_of left)) none ∙ ap (λ (l : List (LaneHandle W T)). map destination (tells_of l)) all
+
+  -- one more lane returned what it told by, which tells where it did
+  pub stays_on : (lanes left left' : List (LaneHandle W T)) (tells : List T) (h : LaneHandle W T) (t : T) → map destination tells ++ map destination (tells_of left) ≡ map destination (tells_of lanes) → left ≡ h ∷ left'
+      → destination t ≡ destination h.promise.tell.value → map destination (tells ++ t ∷ []) ++ map destination (tells_of left') ≡ map destination (tells_of lanes)
+  stays_on lanes left left' tells h t before is same =
+      ap (λ l. l ++ map destination (tells_of left')) (map-append destination tells (t ∷ []))
+      ∙ append_assoc (map destination tells) (destination t ∷ []) (map destination (tells_of left'))
+      ∙ ap (λ d. map destination tells ++ d ∷ map destination (tells_of left')) same
+      ∙ ap (λ (l : List (LaneHandle W T)). map destination tells ++ map destination (tells_of l)) (sym is)
+      ∙ before
+
+  pub stays_all : (lanes left : List (LaneHandle W T)) (tells : List T) → map destination tells ++ map destination (tells_of left) ≡ map destination (tells_of lanes) → left ≡ [] → map destination tells ≡ map destination (tells_of lanes)
+  stays_all lanes left tells all none = sym (append-nil (map destination tells)) ∙ ap (λ (l : List (LaneHandle W T)). map destination tells ++ map destination (tells_of l)) (sym none) ∙ all

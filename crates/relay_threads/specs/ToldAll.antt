@@ -1,11 +1,11 @@
 -- What lanes have told that have finished.
-use Rattle.std.specs.Prelude.{◌≡◌, ◌+◌, ℕ, Bool, IsTrue, List, [], ◌∷◌, Option, map}
+use Rattle.std.specs.Prelude.{◌≡◌, ◌+◌, ◌<◌, ◌≤◌, ℕ, Bool, IsTrue, List, [], ◌∷◌, Option, length, map}
 use Rattle.relay_action.specs.declared.mail.Mail.{Mail}
 use Rattle.relay_action.specs.declared.operation.Op.{Op}
 use Rattle.relay_action.specs.declared.operation.OpName.{OpName}
 use Rattle.relay_results.specs.Words.{Mem, count}
 use Rattle.relay_results.specs.Outside.{Outside, IsOpening}
-use Rattle.relay_delivery.specs.Delivery.{HasDistinctNames}
+use Rattle.relay_delivery.specs.Delivery.{HasDistinctNames, taken_of}
 use Rattle.relay_delivery.specs.Explained.{Explains}
 use Rattle.relay_delivery.specs.Lane.{fresh_state}
 use Rattle.relay_delivery.specs.Machine.{first_in}
@@ -19,6 +19,8 @@ use Rattle.relay_core.specs.Walk.{report_of}
 use Rattle.relay_lane.specs.Once.{is_op_as}
 use Rattle.relay_lane.specs.Exchanges.{Exchange}
 use Rattle.relay_producer.specs.declared.ends.ClosedEnd.{ClosedEnd}
+use Rattle.relay_producer.specs.Puts.{ops_for}
+use Rattle.relay_queue.specs.Messages.{mail_of}
 use Rattle.relay_threads.specs.declared.summary.LaneSummary.{LaneSummary}
 use Rattle.relay_threads.specs.Course.{puts_of, IsBelow}
 use Rattle.relay_threads.specs.Ending.{CameTo, LeadsTo}
@@ -42,6 +44,7 @@ module _ {W T : Type 0} (describes : W → Bool) (fits : W → Outside → Type 
   pub record ToldLane (rows : List (List ClosedEnd)) (lane : ℕ) (start : W) (first last : T) (s : LaneSummary W) : Type 0 where
     pub messages : List Mail
     pub met : AreMetAt lane 0 messages rows
+    pub no_other : (sender : ℕ) → length rows ≤ sender → mail_of sender messages ≡ []
     pub applied : List Success
     pub shown : Shows (told first) (told last) applied (map report_of s.reports.items)
     pub once : (n : OpName) → count (is_success_as n) applied + count (is_report_as n) (map report_of s.reports.items) ≡ count (is_op_as n) (puts_of messages)
@@ -51,6 +54,14 @@ module _ {W T : Type 0} (describes : W → Bool) (fits : W → Outside → Type 
     pub explained : HasDistinctNames (puts_of messages) → (o p : Outside) → IsOpening o → IsBelow (first_in c.epoch) o → Explains reached.reached.calls o p → IsToldTruly (config_of c) (puts_of messages) applied (map report_of s.reports.items) p
     pub explained_if_stated : HasDistinctNames (puts_of messages) → (o p : Outside) → BeginsBeside (config_of c) o → Explains reached.reached.calls o p → StatesVersions p → IsToldTruly (config_of c) (puts_of messages) applied (map report_of s.reports.items) p
     pub described : HasDistinctNames (puts_of messages) → IsTrue (describes start) → (o : Outside) → fits start o → IsOpening o → IsBelow (first_in c.epoch) o → LeadsToTruly (puts_of messages) reached.reached.calls applied s o
+
+  -- The same, and the operations that it took are exactly those on its documents that the producers put, each producer's in
+  -- order, and no others. No two of them have the same name.
+  pub record ToldOfPuts (puts : ℕ → List Op) (rows : List (List ClosedEnd)) (lane : ℕ) (start : W) (first last : T) (s : LaneSummary W) : Type 0 where
+    pub lane_told : ToldLane rows lane start first last s
+    pub own : (p : ℕ) → p < c.producers → taken_of (puts_of lane_told.messages) p ≡ ops_for c.lanes lane (puts p)
+    pub none_besides : (p : ℕ) → c.producers ≤ p → taken_of (puts_of lane_told.messages) p ≡ []
+    pub distinct : HasDistinctNames (puts_of lane_told.messages)
 
   -- this holds for the lanes from this one on, each with its wire, and with what it told by at the start and at the end
   abbrev pub AllTold : List (List ClosedEnd) → ℕ → List W → List T → List T → List (LaneSummary W) → Type 0
@@ -62,3 +73,13 @@ module _ {W T : Type 0} (describes : W → Bool) (fits : W → Outside → Type 
   AllTold rows lane (w ∷ ws) (f ∷ fs) [] ss = ⊥
   AllTold rows lane (w ∷ ws) (f ∷ fs) (t ∷ ts) [] = ⊥
   AllTold rows lane (w ∷ ws) (f ∷ fs) (t ∷ ts) (s ∷ ss) = ToldLane rows lane w f t s × AllTold rows (lane + 1) ws fs ts ss
+
+  abbrev pub AllToldOfPuts : (ℕ → List Op) → List (List ClosedEnd) → ℕ → List W → List T → List T → List (LaneSummary W) → Type 0
+  AllToldOfPuts puts rows lane [] [] [] [] = Unit {0}
+  AllToldOfPuts puts rows lane [] [] [] (s ∷ ss) = ⊥
+  AllToldOfPuts puts rows lane [] [] (t ∷ ts) ss = ⊥
+  AllToldOfPuts puts rows lane [] (f ∷ fs) ts ss = ⊥
+  AllToldOfPuts puts rows lane (w ∷ ws) [] ts ss = ⊥
+  AllToldOfPuts puts rows lane (w ∷ ws) (f ∷ fs) [] ss = ⊥
+  AllToldOfPuts puts rows lane (w ∷ ws) (f ∷ fs) (t ∷ ts) [] = ⊥
+  AllToldOfPuts puts rows lane (w ∷ ws) (f ∷ fs) (t ∷ ts) (s ∷ ss) = ToldOfPuts puts rows lane w f t s × AllToldOfPuts puts rows (lane + 1) ws fs ts ss

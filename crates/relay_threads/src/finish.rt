@@ -12,7 +12,7 @@ ghost use Rattle.relay_threads.specs.Ending.{AllFinished, HasFault};
 ghost use Rattle.relay_threads.specs.Relay.{AreRows, rows_of};
 ghost use Rattle.relay_threads.specs.Sums.{IsClosedOn, AreClosedOn, IsMet, AreMet, AreDone};
 ghost use Rattle.relay_threads.specs.Sums.{NoneGone, queues_of_ends, SumsUp, AllSumUp};
-ghost use Rattle.relay_threads.specs.ToldAll.{AllTold};
+ghost use Rattle.relay_threads.specs.ToldAll.{AllTold, AllToldOfPuts};
 ghost use Rattle.relay_threads.specs.Together.{AreDeliveredTogether};
 
 use crate::fault::{FinishFault, FinishFaultKind};
@@ -267,7 +267,7 @@ impl<W: Wire + Drop + Send + 'static, T: Tell + Drop + Send + 'static> Relay<W, 
     /// report in the summary. An operation that it told of as applied has the version assigned for
     /// its place. Beside each outside that explains the lane's calls, and beside one that continues
     /// each outside which its wire describes, the index has applied the write with that version, and
-    /// each report has a true cause.
+    /// each report has a true cause. What it told by tells where it did at the start.
     pub fn finish_telling<R: Threads>(
         self,
         rt: &R,
@@ -288,6 +288,12 @@ impl<W: Wire + Drop + Send + 'static, T: Tell + Drop + Send + 'static> Relay<W, 
         ensures told { IfOk result (λ r. AllTold W.describes W.fits W.carries T.told self.config
             (rows_of producers.items control) 0 self.wires self.tells
             r.1.items r.0.lanes.items) }
+        ensures told_of_puts { IfOk result (λ r. (puts : ℕ → List Op)
+            → HavePut puts 0 producers.items
+            → AllToldOfPuts W.describes W.fits W.carries T.told self.config puts
+            (rows_of producers.items control) 0 self.wires self.tells r.1.items r.0.lanes.items) }
+        ensures destinations { IfOk result (λ r. map T.destination r.1.items
+            ≡ map T.destination self.tells) }
         ensures fault { IfErr result (λ e. HasFault W.describes W.fits W.carries self.config
             self.queues self.wires (rows_of producers.items control) e) }
     {

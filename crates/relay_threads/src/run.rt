@@ -266,6 +266,7 @@ fn tell_reports<R: Wait, T: Tell>(
     ensures told { TellsMore (T.told tell.old) (T.told tell.new) told.old told.new
         lane.now.state lane.now.state }
     ensures all { OnOk result (length lane.now.state.core.reports ≤ told.new) }
+    ensures destination { T.destination tell.new ≡ T.destination tell.old }
 {
     let reports = lane.reports();
     while *told < reports.len() {
@@ -286,6 +287,7 @@ fn tell_all<R: Wait, T: Tell>(
     ensures told { TellsMore (T.told tell.old) (T.told tell.new) told.old told.new
         lane.old.state lane.new.state }
     ensures all { OnOk result (length lane.new.state.core.reports ≤ told.new) }
+    ensures destination { T.destination tell.new ≡ T.destination tell.old }
 {
     tell.applied(rt, lane.successes());
     lane.forget_successes();
@@ -308,6 +310,7 @@ fn go_on_and_tell<R: Wait, W: Wire, P: Pace, T: Tell>(
     ensures told { (heard : List Mail) → GoesOnTelling (W.describes wire.old) W.fits W.carries
         wire.old wire.new (T.told tell.old) (T.told tell.new) told.old told.new
         lane.old.state lane.new.state heard heard }
+    ensures destination { T.destination tell.new ≡ T.destination tell.old }
 {
     go_on(lane, wire, pace, message)?;
     tell_all(rt, lane, tell, told)
@@ -336,6 +339,7 @@ fn drain_turn<R: Wait, W: Wire, P: Pace, T: Tell>(
     ensures told { (heard : List Mail) → GoesOnTelling (W.describes wire.old) W.fits W.carries
         wire.old wire.new (T.told tell.old) (T.told tell.new) told.old told.new
         lane.old.state lane.new.state heard heard }
+    ensures destination { T.destination tell.new ≡ T.destination tell.old }
 {
     if !drain_next(lane, wire, pace)? {
         return Ok(false);
@@ -362,6 +366,7 @@ fn drain_turns<R: Wait, W: Wire, P: Pace, T: Tell>(
     ensures told { (heard : List Mail) → GoesOnTelling (W.describes wire.old) W.fits W.carries
         wire.old wire.new (T.told tell.old) (T.told tell.new) told.old told.new
         lane.old.state lane.new.state heard heard }
+    ensures destination { T.destination tell.new ≡ T.destination tell.old }
 {
     'turns: loop {
         if !drain_turn(rt, lane, wire, pace, tell, told)? {
@@ -389,6 +394,7 @@ fn drain_all<R: Wait, W: Wire, P: Pace, T: Tell>(
     ensures told { (heard : List Mail) → GoesOnTelling (W.describes wire.old) W.fits W.carries
         wire.old wire.new (T.told tell.old) (T.told tell.new) told.old told.new
         lane.old.state lane.new.state heard heard }
+    ensures destination { T.destination tell.new ≡ T.destination tell.old }
 {
     match drain_turns(rt, lane, wire, pace, tell, told) {
         Ok(()) => LaneEndKind::Finished,
@@ -444,6 +450,7 @@ fn take_next<R: Wait, W: Wire, P: Pace, T: Tell>(
         × GoesOnTelling (W.describes wire.old) W.fits W.carries wire.old wire.new
         (T.told tell.old) (T.told tell.new) told.old told.new
         lane.old.state lane.new.state take.old.taken heard) }
+    ensures destination { T.destination tell.new ≡ T.destination tell.old }
 {
     make_place(lane, wire, pace)?;
     let message = take_message(rt, take, lane, wire, pace, more)?;
@@ -483,6 +490,7 @@ fn take_all<R: Wait, W: Wire, P: Pace, T: Tell>(
     ensures stopped { IfErr result (λ kind. (heard : List Mail) × HasHeard kind take.new.taken heard
         × HasTold (W.describes wire.old) W.fits W.carries wire.old wire.new lane.old.state.config
         (T.told tell.old) (T.told tell.new) told.new lane.new.state heard) }
+    ensures destination { T.destination tell.new ≡ T.destination tell.old }
 {
     let mut more = false;
     'messages: for _ in rt.forever() {
@@ -517,6 +525,7 @@ fn work<R: Wait, W: Wire, P: Pace, T: Tell>(
     ensures told { (heard : List Mail) × HasHeard result take.new.taken heard
         × HasTold (W.describes wire.old) W.fits W.carries wire.old wire.new lane.old.state.config
         (T.told tell.old) (T.told tell.new) told.new lane.new.state heard }
+    ensures destination { T.destination tell.new ≡ T.destination tell.old }
 {
     match take_all(rt, take, lane, wire, pace, tell, told) {
         Ok(()) => drain_all(rt, lane, wire, pace, tell, told),
@@ -551,7 +560,8 @@ fn kind_after(kind: LaneEndKind, told: Result<(), AllocError>) -> LaneEndKind
 /// its wire returned. What it told is true beside each outside that explains its calls, and beside
 /// one that continues each outside which the wire describes: if it told that an operation ended as
 /// applied, its write was applied with that version, and the status that it told is that of the entry
-/// with which it was answered; and each report that it told has a true cause.
+/// with which it was answered; and each report that it told has a true cause. It tells in one place
+/// from its start to its end.
 ///
 /// It ends as Memory if the allocation for an operation that it took, for a request or for telling
 /// of a report failed, and as Gone if the queue says that all senders are dropped but not all had closed; [`LaneEnd`] says
@@ -582,6 +592,7 @@ pub fn run_lane<R: Wait, W: Wire, P: Pace + Drop, T: Tell>(
     ensures told { EndsTold (W.describes wire) W.fits W.carries wire result.wire
         (T.told tell.old) (T.told tell.new) lane.state.config
         result.taken.taken result.kind result.lane.state }
+    ensures destination { T.destination tell.new ≡ T.destination tell.old }
 {
     let mut take = take;
     let mut lane = lane;

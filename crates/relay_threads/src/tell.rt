@@ -1,5 +1,5 @@
 //! Telling how operations ended.
-ghost use Rattle.std.specs.Prelude.{ℕ, Option, OnOk, OnErr};
+ghost use Rattle.std.specs.Prelude.{◌≡◌, ℕ, Option, OnOk, OnErr};
 ghost use Rattle.relay_core.specs.Walk.{report_of};
 ghost use Rattle.relay_threads.specs.Told.{Told, AddsApplied, AddsReport, AddsNothing};
 
@@ -14,20 +14,29 @@ pub trait Tell {
     /// it, for a producer that is gone, say.
     ghost told: { Self → ℕ → Option Told };
 
+    /// Where it tells, and how: the channels that it tells on, for example.
+    ghost Destination: { Type 0 };
+
+    /// Where it tells, and how. No call changes that.
+    ghost destination: { Self → Destination };
+
     /// Tells of operations that ended as applied, in the order in which they ended.
     fn applied<R: Wait>(&mut self, rt: &R, successes: &[Success])
-        ensures { (p : ℕ) → AddsApplied p successes.now (told self.old p) (told self.new p) };
+        ensures told { (p : ℕ) → AddsApplied p successes.now (told self.old p) (told self.new p) }
+        ensures destination { destination self.new ≡ destination self.old };
 
     /// Tells of an operation that was reported. `AllocError`: an allocation failed, and nothing was
     /// told.
     fn reported<R: Wait>(&mut self, rt: &R, report: &Report) -> Result<(), AllocError>
         ensures ok { OnOk result
             ((p : ℕ) → AddsReport p (report_of report.now) (told self.old p) (told self.new p)) }
-        ensures err { OnErr result ((p : ℕ) → AddsNothing (told self.old p) (told self.new p)) };
+        ensures err { OnErr result ((p : ℕ) → AddsNothing (told self.old p) (told self.new p)) }
+        ensures destination { destination self.new ≡ destination self.old };
 
     /// Tells that the lane's thread ends. Nothing is told after it.
     fn ended<R: Wait>(&mut self, rt: &R)
-        ensures { (p : ℕ) → AddsNothing (told self.old p) (told self.new p) };
+        ensures told { (p : ℕ) → AddsNothing (told self.old p) (told self.new p) }
+        ensures destination { destination self.new ≡ destination self.old };
 }
 
 /// Tells nobody.
@@ -38,6 +47,10 @@ impl Tell for TellNobody {
     ghost use Rattle.std.specs.Prelude.{None};
 
     ghost told = { λ t p. None };
+
+    ghost Destination = { Unit {0} };
+
+    ghost destination = { λ _. tt };
 
     fn applied<R: Wait>(&mut self, _rt: &R, _successes: &[Success]) {}
 

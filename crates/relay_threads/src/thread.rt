@@ -1,8 +1,8 @@
 //! The thread of a lane, and what is known of its end.
-ghost use Rattle.std.specs.Prelude.{◌≡◌, ◌+◌, ◌≤◌, [], IfOk, vec_len, vec_capacity};
+ghost use Rattle.std.specs.Prelude.{◌≡◌, ◌+◌, ◌≤◌, [], IfOk, map, vec_len, vec_capacity};
 ghost use Rattle.relay_core.specs.State.{fresh};
 ghost use Rattle.relay_threads.specs.Promises.{KeepsCourse, KeepsTold};
-ghost use Rattle.relay_threads.specs.Lanes.{EndAsPromised, ToldAsPromised};
+ghost use Rattle.relay_threads.specs.Lanes.{tells_of, EndAsPromised, ToldAsPromised};
 
 use crate::lane_end::LaneEnd;
 use crate::run::run_lane;
@@ -33,7 +33,8 @@ impl<W: Wire, T: Tell> Promise<(LaneEnd<W>, T)> for LanePromise<W, T> {
     ghost kept_by = { λ p r. KeepsCourse W.describes W.fits W.carries
         p.config.value p.take.value p.wire.value r.0
         × KeepsTold W.describes W.fits W.carries T.told
-        p.config.value p.wire.value p.tell.value r.1 r.0 };
+        p.config.value p.wire.value p.tell.value r.1 r.0
+        × (T.destination r.1 ≡ T.destination p.tell.value) };
 }
 
 /// A lane in its thread, which returns its end, and the `Tell` after its last call.
@@ -93,6 +94,8 @@ where
     ensures ends { EndAsPromised W.describes W.fits W.carries lanes.items result.0.items }
     ensures told { ToldAsPromised W.describes W.fits W.carries T.told
         lanes.items result.0.items result.1.items }
+    ensures destinations { map T.destination result.1.items
+        ≡ map T.destination (tells_of lanes.items) }
 {
     let mut ends = places;
     let mut tells = tell_places;

@@ -5,7 +5,7 @@ use Rattle.relay_threads.proofs.ToldOnce.{goes_on_telling}
 use Rattle.relay_threads.proofs.run.drain_turns.Goals as goal
 
 pub turns-init : goal.turns-init
-turns-init g c = record { closed = refl; out = c.requires.out; describes = refl; told = λ heard first config start h. h }
+turns-init g c = record { closed = refl; out = c.requires.out; describes = refl; told = λ heard first config start h. h; destination = refl }
 
 pub drain_turn-requires-clause-closed : goal.drain_turn-requires-clause-closed
 drain_turn-requires-clause-closed g c = ap (list_all (λ (b : Bool). b)) c.turns.invariant.closed ∙ c.requires.closed
@@ -21,6 +21,7 @@ turns-preserved g c =
       told = λ heard.
           goes_on_telling (d c.args.wire.now) (d c.turns.wire) g.W.Wire.fits g.W.Wire.carries c.args.wire.now c.turns.wire c.drain_turn.new.wire (g.T.Tell.told c.args.tell.now) (g.T.Tell.told c.turns.tell) (g.T.Tell.told c.drain_turn.new.tell)
           c.args.told.now c.turns.told c.drain_turn.new.told c.args.lane.now.state c.turns.lane.state c.drain_turn.new.lane.state heard heard heard i.describes (i.told heard) (c.drain_turn.ensures.told heard);
+      destination = c.drain_turn.ensures.destination ∙ i.destination;
     }
 
 pub returns-then-not-branch-clause-told : goal.returns-then-not-branch-clause-told

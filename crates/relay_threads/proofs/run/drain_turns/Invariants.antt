@@ -11,6 +11,7 @@ invariant-turns g l = record {
   out : g.W.Wire.out l.wire ≡ out_of l.lane.state;
   describes : g.W.Wire.describes l.wire ≡ g.W.Wire.describes l.fn.wire;
   told : (heard : List Mail) → GoesOnTelling (g.W.Wire.describes l.fn.wire) g.W.Wire.fits g.W.Wire.carries l.fn.wire l.wire (g.T.Tell.told l.fn.tell) (g.T.Tell.told l.tell) l.fn.told l.told l.fn.lane.state l.lane.state heard heard;
+  destination : g.T.Tell.destination l.tell ≡ g.T.Tell.destination l.fn.tell;
 }
 
 abbrev pub decreases-turns : goal.decreases-turns

@@ -45,6 +45,6 @@ returns-clause-told g c =
     let same = c.work-kind.ensures.describes in
     let collected = told_on (d u) (d w.wire) fits carries u w.wire v config first y y k k w.lane.state s x.0 x.0 same x.2 (works_told (d w.wire) fits carries collects w.wire v w.lane.state s c.collect.ensures.worked c.collect.ensures.stays y k x.0) in
     let told = goes_on_by (d u) fits carries v y z k l s t x.0 c.tell_all.ensures.state c.tell_all.ensures.told u config first collected in
-    let ended = goes_on_there (d u) fits carries v z last l l t x.0 (tells_nothing z last l t c.ended.ensures) u config first told in
+    let ended = goes_on_there (d u) fits carries v z last l l t x.0 (tells_nothing z last l t c.ended.ensures.told) u config first told in
     subst (λ (e : TakerEnd). EndsTold (d u) fits carries u v first last config e.taken c.kind_after-kind.result t) (sym c.end.ensures.same)
     (told_at_the_end (d u) fits carries u v config first last l s t w.take.taken x.0 c.work-kind.result c.kind_after-kind.result c.tell_all.result c.tell_all.ensures.state x.1 ended c.kind_after-kind.ensures.not_told c.kind_after-kind.ensures.memory c.tell_all.ensures.all)

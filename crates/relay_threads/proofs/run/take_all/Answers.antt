@@ -10,6 +10,7 @@ messages-init g c = record {
   out = c.requires.out;
   describes = refl;
   told = fresh_told (g.W.Wire.describes c.args.wire.now) g.W.Wire.fits g.W.Wire.carries c.args.wire.now (g.T.Tell.told c.args.tell.now) c.args.lane.now.state.config c.args.told.now c.args.lane.now.state c.args.take.now.taken c.requires.fresh c.requires.none_taken c.requires.none_told;
+  destination = refl;
 }
 
 pub messages-preserved : goal.messages-preserved
@@ -24,6 +25,7 @@ messages-preserved g c =
       told =
           told_on (d c.args.wire.now) (d c.messages.wire) g.W.Wire.fits g.W.Wire.carries c.args.wire.now c.messages.wire c.take_next.new.wire c.args.lane.now.state.config (g.T.Tell.told c.args.tell.now) (g.T.Tell.told c.messages.tell) (g.T.Tell.told c.take_next.new.tell)
           c.messages.told c.take_next.new.told c.messages.lane.state c.take_next.new.lane.state c.messages.take.taken c.take_next.new.take.taken i.describes i.told c.in_ok-more.ensures.told;
+      destination = c.take_next.ensures.destination ∙ i.destination;
     }
 
 pub returns-in_err-more-clause-stopped : goal.returns-in_err-more-clause-stopped

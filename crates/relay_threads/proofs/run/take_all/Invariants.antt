@@ -10,4 +10,5 @@ invariant-messages g l = record {
   out : g.W.Wire.out l.wire ≡ out_of l.lane.state;
   describes : g.W.Wire.describes l.wire ≡ g.W.Wire.describes l.fn.wire;
   told : HasTold (g.W.Wire.describes l.fn.wire) g.W.Wire.fits g.W.Wire.carries l.fn.wire l.wire l.fn.lane.state.config (g.T.Tell.told l.fn.tell) (g.T.Tell.told l.tell) l.told l.lane.state l.take.taken;
+  destination : g.T.Tell.destination l.tell ≡ g.T.Tell.destination l.fn.tell;
 }

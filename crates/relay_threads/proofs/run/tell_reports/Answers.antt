@@ -13,7 +13,10 @@ loop-told-preserved g c =
     let s = c.args.lane.now.state in
     let r = c.index-reports-told.result in
     let at = ap (λ rs. slice_get rs k) (sym c.reports-reports.ensures) ∙ report_at c.reports-reports.result.now k r c.loop-told-test.true c.index-reports-told.is in
-    tells_more first now next c.args.told.now k (k + 1) s s s c.loop-told.invariant (tells_report now next k (k + 1) s (report_of r) at refl c.in_ok-reported.ensures.ok)
+    record {
+      told = tells_more first now next c.args.told.now k (k + 1) s s s c.loop-told.invariant.told (tells_report now next k (k + 1) s (report_of r) at refl c.in_ok-reported.ensures.ok);
+      destination = c.reported.ensures.destination ∙ c.loop-told.invariant.destination;
+    }
 
 pub returns-in_err-reported-clause-told : goal.returns-in_err-reported-clause-told
 returns-in_err-reported-clause-told g c =
@@ -22,4 +25,4 @@ returns-in_err-reported-clause-told g c =
     let next = g.T.Tell.told c.reported.new.self in
     let k = c.loop-told.told in
     let s = c.args.lane.now.state in
-    tells_more first now next c.args.told.now k k s s s c.loop-told.invariant (tells_nothing now next k s c.in_err-reported.ensures.err)
+    tells_more first now next c.args.told.now k k s s s c.loop-told.invariant.told (tells_nothing now next k s c.in_err-reported.ensures.err)

@@ -6,7 +6,7 @@ use Rattle.relay_threads.specs.Faults.{FirstOf, TellsFault, ends_as, is_memory, 
 use Rattle.relay_threads.specs.Ending.{AllFinished}
 use Rattle.relay_threads.specs.Relay.{AreRows, rows_of}
 use Rattle.relay_threads.proofs.Popping.{long_map}
-use Rattle.relay_threads.proofs.Delivering.{are_long, all_delivered}
+use Rattle.relay_threads.proofs.Delivering.{are_long, all_delivered, all_told_of}
 use Rattle.relay_threads.proofs.Together.{delivered_together}
 use Rattle.relay_threads.proofs.Results.{same_ok}
 use Rattle.relay_threads.specs.ToldAll.{AllTold}
@@ -64,7 +64,7 @@ returns-clause-told g c =
     let r = ready g.W.Wire.describes g.W.Wire.fits g.W.Wire.carries g.T.Tell.told c.args.self c.self.inside.config c.self.inside.lanes.items c.join_all-ends.result.0.items c.join_all-ends.result.1.items _ c.args.producers.items c.args.control (sym c.self.view_is) c.self.invariant.0 c.self.invariant.1 c.self.invariant.2 c.join_all-ends.ensures.ends c.join_all-ends.ensures.told c.give_back-rows.ensures.rows (sym c.args.producers.ok.0 ∙ c.requires.count) in
     let rows = map (λ r. r.items) c.give_back-rows.result.items in
     subst (λ rows. AllTold g.W.Wire.describes g.W.Wire.fits g.W.Wire.carries g.T.Tell.told c.args.self.config rows 0 c.args.self.wires c.args.self.tells c.join_all-ends.result.1.items c.in_ok-lanes.lanes.items) c.give_back-rows.ensures.rows
-    (all_told_to g.W.Wire.describes g.W.Wire.fits g.W.Wire.carries g.T.Tell.told c.args.self.config rows 0 c.args.self.queues c.args.self.wires c.args.self.tells c.join_all-ends.result.0.items c.join_all-ends.result.1.items c.in_ok-lanes.lanes.items r.ended
+    (all_told_to g.W.Wire.describes g.W.Wire.fits g.W.Wire.carries g.T.Tell.told c.args.self.config rows 0 c.args.self.queues c.args.self.wires c.args.self.tells c.join_all-ends.result.0.items c.join_all-ends.result.1.items c.in_ok-lanes.lanes.items r.count r.ended
     (may_sum g.W.Wire.describes g.W.Wire.fits g.W.Wire.carries c.args.self.config (vec_len c.give_back-rows.result) c.args.self.queues c.args.self.wires c.join_all-ends.result.0.items (map (λ r. r.items) c.give_back-rows.result.items) (vec_len c.join_all-ends.result.0) (c.give_back-rows.result.ok.0 ∙ sym (long_map (λ r. r.items) c.give_back-rows.result.items) ∙ r.count) (sym c.join_all-ends.result.0.ok.0) r.ended (subst (AreRows c.args.self.queues 0) (sym c.give_back-rows.ensures.rows) c.requires.rows) (subst (λ n. FirstOf (ends_as is_memory c.join_all-ends.result.0.items) n None) (sym c.join_all-ends.result.0.ok.0) (subst (TellsFault c.join_all-ends.result.0.items (map (λ r. r.items) c.give_back-rows.result.items)) c.in_default.is c.fault_of.ensures).0) (subst (λ n. FirstOf (is_gone_lane c.join_all-ends.result.0.items (map (λ r. r.items) c.give_back-rows.result.items)) n None) (sym c.join_all-ends.result.0.ok.0) (subst (TellsFault c.join_all-ends.result.0.items (map (λ r. r.items) c.give_back-rows.result.items)) c.in_default.is c.fault_of.ensures).1)).kinds r.has_told (rw was at c.sum_up_all.ensures))
 
 pub returns-in_err-lanes-clause-fault : goal.returns-in_err-lanes-clause-fault
@@ -84,3 +84,8 @@ pub returns-clause-together : goal.returns-clause-together
 returns-clause-together g c puts h =
     let r = ready g.W.Wire.describes g.W.Wire.fits g.W.Wire.carries g.T.Tell.told c.args.self c.self.inside.config c.self.inside.lanes.items c.join_all-ends.result.0.items c.join_all-ends.result.1.items _ c.args.producers.items c.args.control (sym c.self.view_is) c.self.invariant.0 c.self.invariant.1 c.self.invariant.2 c.join_all-ends.ensures.ends c.join_all-ends.ensures.told c.give_back-rows.ensures.rows (sym c.args.producers.ok.0 ∙ c.requires.count) in
     delivered_together g.W.Wire.describes g.W.Wire.fits g.W.Wire.carries c.args.self.config puts (rows_of c.args.producers.items c.args.control) c.args.self.wires c.in_ok-lanes.lanes.items c.args.producers.items (sym c.args.producers.ok.0 ∙ c.requires.count) h r.some r.wires (returns-clause-delivered g c puts h)
+
+pub returns-clause-told_of_puts : goal.returns-clause-told_of_puts
+returns-clause-told_of_puts g c puts h =
+    let r = ready g.W.Wire.describes g.W.Wire.fits g.W.Wire.carries g.T.Tell.told c.args.self c.self.inside.config c.self.inside.lanes.items c.join_all-ends.result.0.items c.join_all-ends.result.1.items _ c.args.producers.items c.args.control (sym c.self.view_is) c.self.invariant.0 c.self.invariant.1 c.self.invariant.2 c.join_all-ends.ensures.ends c.join_all-ends.ensures.told c.give_back-rows.ensures.rows (sym c.args.producers.ok.0 ∙ c.requires.count) in
+    all_told_of g.W.Wire.describes g.W.Wire.fits g.W.Wire.carries g.T.Tell.told c.args.self.config puts c.args.producers.items c.args.control 0 c.args.self.wires c.args.self.tells c.join_all-ends.result.1.items c.in_ok-lanes.lanes.items (sym c.args.producers.ok.0 ∙ c.requires.count) (are_long c.args.self.queues 0 c.args.self.config.lanes c.args.producers.items c.args.control r.lanes c.requires.rows) h c.give_back-rows.ensures.no_puts (returns-clause-told g c)
