@@ -4,9 +4,9 @@ Each is a wrong body that the prover must refuse, in the format of the kit's mus
 its function calls and not on their bodies, so edits of different functions are tried in one check. Such an edit is refused if the
 prover reports an error of the function itself, at its own lines or in its own proof files: that it calls a function which is not
 proved does not count. So in a crate that was not proved before, the functions that are not edited get an empty proof: that saves
-proving those that are called. An edit that its batch does not refuse is tried again alone. So is an edit of more than one function
-or of a definition, for which any error counts. If it names a law, only that function is checked, which is quicker, and must be
-refused. The run fails if an edit is not refused, or cannot be applied, compiled or read.
+proving those that are called. An edit that its batch does not refuse is tried again alone, and once more with all bodies if need be.
+So is an edit of more than one function or of a definition, for which any error counts. If it names a law, only that function is
+checked, which is quicker, and must be refused. The run fails if an edit is not refused, or cannot be applied, compiled or read.
 
 With --gate, the libraries below are those that `rt ci` has just built, and each check of a crate begins with what `gate.py` kept of
 it, or if it kept nothing, with what the check before it did. Otherwise `rt check` builds the libraries that changed, and each check
@@ -52,6 +52,7 @@ def verdict_of(crate, texts, kept, only):
 
 
 def is_refused_in(said, edit):
+    """Returns true if the prover refuses the function of an edit for an error of its own that it could read."""
     with contextlib.suppress(Unusable):
         return edit.refused(said)
     return False

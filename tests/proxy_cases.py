@@ -50,8 +50,8 @@ class TlsServer(Server):
 
 
 def configuration(name):
-    """Returns the example configuration in this file."""
-    with open(os.path.join(TOP, "examples", "proxies", name), encoding="utf-8") as file:
+    """Returns the configuration in this file of the examples."""
+    with open(os.path.join(TOP, "examples", name), encoding="utf-8") as file:
         return file.read()
 
 
@@ -59,11 +59,16 @@ class Proxy:
     """A proxy with the example configuration, in which only the ports and the certificate are replaced."""
 
     def __init__(self, kind, folder, server, chain, change=lambda text: text):
-        self.port = free_port()
-        text = configuration({"nginx": "nginx.conf", "haproxy": "haproxy.cfg", "stunnel4": "stunnel.conf"}[kind])
-        for old, new in (("127.0.0.1:9201", "127.0.0.1:%d" % self.port), (NAME + ":9200", "127.0.0.1:%d" % server.port), ("/etc/ssl/certs/ca-certificates.crt", chain)):
+        name = {"nginx": "nginx.conf", "haproxy": "haproxy.cfg", "stunnel4": "stunnel.conf"}[kind]
+        replaced = {NAME + ":9200": "127.0.0.1:%d" % server.port, "/etc/ssl/certs/ca-certificates.crt": chain}
+        self.begin(kind, "proxies/" + name, folder, "127.0.0.1:9201", replaced, change)
+
+    def begin(self, kind, name, folder, own, replaced, change=lambda text: text):
+        """Starts it with this file of the examples, in which its own address and these texts are replaced."""
+        self.port, text = free_port(), configuration(name)
+        for old, new in {own: "127.0.0.1:%d" % self.port, **replaced}.items():
             if old not in text:
-                raise ValueError("the configuration of %s does not name %s" % (kind, old))
+                raise ValueError("%s does not name %s" % (name, old))
             text = text.replace(old, new)
         if kind == "nginx":
             text = text.replace("http {", "http {\n" + "".join("    %s_temp_path %s;\n" % (it, folder) for it in ("client_body", "proxy", "fastcgi", "uwsgi", "scgi")))

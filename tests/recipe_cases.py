@@ -16,12 +16,13 @@ import zlib
 
 from bulk_server import Server
 from program import RELAY, SECONDS, check, skip
-from proxy_cases import NAME, TOP, Proxy, certificate
+from proxy_cases import TOP, Proxy, certificate
 from run_cases import FAULTS
 from serve_cases import Serve, body_of
 from stub_cases import free_port
 
 EXAMPLES = os.path.join(TOP, "examples", "serve")
+INDEXES = ("books", "films", "maps", "plays")
 
 
 def lacks(what, **programs):
@@ -39,23 +40,10 @@ def wait_until(holds):
 
 
 class Front(Proxy):
-    """nginx with a configuration of examples/serve, in which only ports and files are replaced."""
+    """nginx with a configuration of examples/serve."""
 
-    def __init__(self, name, folder, replaced):
-        self.port = free_port()
-        with open(os.path.join(EXAMPLES, name), encoding="utf-8") as file:
-            text = file.read()
-        for old, new in replaced.items():
-            if old not in text:
-                raise ValueError("%s does not name %s" % (name, old))
-            text = text.replace(old, new % self.port if "%d" in new else new)
-        text = text.replace("http {", "http {\n" + "".join("    %s_temp_path %s;\n" % (it, folder) for it in ("client_body", "proxy", "fastcgi", "uwsgi", "scgi")))
-        path = os.path.join(folder, name)
-        with open(path, "w", encoding="utf-8") as file:
-            file.write(self.in_front("nginx", folder) + text)
-        self.log = open(os.path.join(folder, "nginx.log"), "wb")
-        self.process = subprocess.Popen(["nginx", "-e", os.path.join(folder, "nginx.error"), "-p", folder, "-c", path], stdin=subprocess.DEVNULL, stdout=self.log, stderr=self.log)
-        self.wait()
+    def __init__(self, name, folder, own, replaced):
+        self.begin("nginx", "serve/" + name, folder, own, replaced)
 
 
 def behind_tls():
@@ -66,7 +54,7 @@ def behind_tls():
         key, chain = certificate(folder)
         server = Server(plan=lambda number: FAULTS[number % len(FAULTS)] if number % 3 == 0 else None)
         serve = Serve(server, "--workers", "8", "--lanes", "2")
-        front = Front("tls.conf", folder, {"127.0.0.1:9300": "127.0.0.1:%s" % serve.port, "127.0.0.1:9343": "127.0.0.1:%d", "/etc/relay/chain.pem": chain, "/etc/relay/key.pem": key})
+        front = Front("tls.conf", folder, "127.0.0.1:9343", {"127.0.0.1:9300": "127.0.0.1:%s" % serve.port, "/etc/relay/chain.pem": chain, "/etc/relay/key.pem": key})
         context = ssl.create_default_context(cafile=chain)
         context.check_hostname = False
         told = {}
@@ -99,61 +87,59 @@ def together(calls):
         thread.join()
 
 
-def shared(by, wanted):
-    """Two relays, each in an epoch of its own, before one index: each document's writes come from one of them, in order."""
+def shared(by, share):
+    """Two relays, each in an epoch of its own, before one index: each share's writes come from one of them, in order. `share` gives the
+    share of a document."""
     with tempfile.TemporaryDirectory() as folder:
-        server, relays = Server(), []
-        for number in range(2):
-            relays.append(Serve(server, "--workers", "8", "--lanes", "2", "--epoch", "%d" % (number + 1)))
+        server, wrong = Server(), []
+        relays = [Serve(server, "--workers", "8", "--lanes", "2", "--epoch", "%d" % (number + 1)) for number in range(2)]
         ports = {"127.0.0.1:93%d0" % number: "127.0.0.1:%s" % relay.port for number, relay in enumerate(relays)}
-        front = Front("shares.conf", folder, {**ports, "127.0.0.1:9200": "127.0.0.1:%d", "hash $share": by})
+        front = Front("shares.conf", folder, "127.0.0.1:9200", {**ports, "hash $share": by})
 
         def client(number):
             connection = http.client.HTTPConnection("127.0.0.1", front.port, timeout=60)
             for turn in range(15):
-                for it in range(4):
-                    connection.request("PUT", "/%s/_doc/%d" % (("books", "films", "maps", "plays")[it], number), b'{"n":%d}' % turn)
+                for index in INDEXES:
+                    connection.request("PUT", "/%s/_doc/%d" % (index, number), b'{"n":%d}' % turn)
                     answer = connection.getresponse()
                     answer.read()
                     wrong.extend([answer.status] if answer.status not in (200, 201) else [])
             connection.close()
 
-        wrong = []
         together([lambda number=number: client(number) for number in range(6)])
-        check("shared out by %s: all is written" % by, not wrong and len(server.index.applied) == 24, wrong[:3])
-        rows = server.index.applied.items()
-        check("shared out by %s: in order" % by, all([row[2] for row in it] == ['{"n":%d}' % turn for turn in range(15)] for _, it in rows))
-        epochs = {key: {row[0] >> 40 for row in it} for key, it in rows}
-        check("shared out by %s: each by one relay" % by, all(len(it) == 1 for it in epochs.values()) and {min(it) for it in epochs.values()} == {1, 2}, epochs)
-        shares = {key[0] if wanted == "index" else key: it for key, it in epochs.items()}
-        check("shared out by %s: a share is one relay's" % by, all(epochs[key] == shares[key[0] if wanted == "index" else key] for key in epochs), epochs)
-        connection = http.client.HTTPConnection("127.0.0.1", front.port, timeout=60)
-        connection.request("POST", "/_bulk", body_of([("1", "{}")]))
-        check("shared out by %s: what has no share is refused" % by, connection.getresponse().status == 400 or wanted == "document")
-        connection.close()
+        rows = server.index.applied
+        check("shared out by %s: all is written" % by, not wrong and len(rows) == 24, wrong[:3])
+        check("shared out by %s: in order" % by, all([row[2] for row in it] == ['{"n":%d}' % turn for turn in range(15)] for it in rows.values()))
+        epochs = {}
+        for key, it in rows.items():
+            epochs.setdefault(share(key), set()).update(row[0] >> 40 for row in it)
+        check("shared out by %s: a share is one relay's, and each has some" % by, sorted(set(map(tuple, epochs.values()))) == [(1,), (2,)], epochs)
+        check("shared out by %s: what has no share is refused" % by, asked(front, "POST", "/_bulk", body_of([("1", "{}")])) == 400)
         relays[0].process.kill()
         relays[0].process.wait()
-        before = len(server.index.applied)
-        together([lambda number=number: asked(front, number) for number in range(40)])
-        fresh = [it for key, it in server.index.applied.items() if key[1].startswith("later")]
-        check("shared out by %s: a relay that is down keeps its share" % by, len(server.index.applied) > before and all(row[0] >> 40 == 2 for it in fresh for row in it) and (wanted == "index" or len(fresh) < 40))
+        statuses = {number: asked(front, "PUT", "/%s/_doc/later-%d" % (INDEXES[number % 4], number), b"{}") for number in range(40)}
+        fresh = {key: it for key, it in rows.items() if key[1].startswith("later")}
+        check("shared out by %s: a relay that is down keeps its share" % by, set(statuses.values()) == {201, 502} and {row[0] >> 40 for it in fresh.values() for row in it} == {2}, statuses)
+        check("shared out by %s: what was answered as written is" % by, len(fresh) == list(statuses.values()).count(201), statuses)
         front.close()
         check("shared out by %s: the stop" % by, relays[1].stop()[0] == 0)
         server.close()
 
 
-def asked(front, number):
+def asked(front, method, target, body):
+    """Sends a request on a connection of its own, and returns the status."""
     connection = http.client.HTTPConnection("127.0.0.1", front.port, timeout=60)
-    connection.request("PUT", "/%s/_doc/later-%d" % (("books", "films", "maps", "plays")[number % 4], number), b"{}")
-    connection.getresponse().read()
+    connection.request(method, target, body)
+    status = connection.getresponse().status
     connection.close()
+    return status
 
 
 def several():
     if lacks("several relays behind nginx", nginx="nginx-light"):
         return
-    shared("hash $share", "index")
-    shared("hash $uri", "document")
+    shared("hash $share", lambda key: key[0])
+    shared("hash $uri", lambda key: key)
 
 
 class Queue:

@@ -4,7 +4,8 @@ Each entry of the stream has the fields `index`, `id` and, unless it is a delete
 document, so that all writes of a document stand in one stream, in order; each stream has one consumer, and one relay behind it. An
 entry is acknowledged once the relay has answered that it was written, or that the index refused it; those go to the stream
 STREAM:refused, with the reason. Whatever happens to the consumer or to the relay, an entry that was not acknowledged is handed
-over again, with all that came after it in its batch: so an older write never stays the last one of its document.
+over again, with all that came after it in its batch: so an older write does not stay the last one of its document. For that the
+relay serves its consumer alone: a request of a consumer that was killed must not wait there for a worker, and be put later.
 """
 import http.client
 import json

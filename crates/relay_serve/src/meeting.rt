@@ -64,8 +64,8 @@ fn meet_lane(
     Ok(met)
 }
 
-/// Meets what each worker took with what each lane told it, and returns it. `Untold`: something that a lane told a
-/// worker was lost.
+/// Meets what each worker took with what each lane told it, and returns what was taken. `Untold`:
+/// something that a lane told a worker was lost. `Start` with `Memory`: allocation failed.
 pub(crate) fn meet_all(
     alloc: Global,
     receipts: Vec<ReceiptTake<Ending>>,
