@@ -355,10 +355,15 @@ def broken():
 
 
 def faults():
-    """Under every fault of the index each answer is true, and each document has its client's writes in order."""
-    dice = random.Random(5)
+    """Under every fault of the index each answer is true, and each document has its client's writes in order: in one term, and in many."""
+    in_terms(5)
+    in_terms(6, "--turn-after", "20")
+
+
+def in_terms(seed, *options):
+    dice = random.Random(seed)
     server = Server(lambda number: dice.choice([None, None, *FAULTS]))
-    serve = Serve(server, "--workers", "9", "--lanes", "3", "--attempts", "32", "--count", "20")
+    serve = Serve(server, "--workers", "9", "--lanes", "3", "--attempts", "32", "--count", "20", *options)
     said, lock = {}, threading.Lock()
 
     def client(number):
@@ -465,6 +470,44 @@ def epochs():
         ("a duration", ["--epoch", "1", "--answer-within", "2h"], b"--answer-within"),
     ):
         fails("the command line: %s" % name, [*to, *args], said, 1)
+
+
+def terms():
+    """Terms follow one another while clients write: connections stay, and each document has its writes in order, in rising epochs."""
+    clients, each = 8, 60
+    with tempfile.TemporaryDirectory() as folder:
+        path, server, wrong = os.path.join(folder, "epoch"), Server(), []
+        serve = Serve(server, "--workers", "6", "--lanes", "2", "--epoch-file", path, "--turn-after", "40")
+
+        def client(number):
+            connection = serve.connect()
+            connection.connect()
+            port = connection.sock.getsockname()[1]
+            for turn in range(each):
+                connection.request("PUT", "/books/_doc/%d" % number, b'{"n":%d}' % turn)
+                answer = connection.getresponse()
+                answer.read()
+                if answer.status not in (200, 201) or connection.sock is None or connection.sock.getsockname()[1] != port:
+                    wrong.append((number, turn, answer.status))
+
+        threads = [threading.Thread(target=client, args=(number,)) for number in range(clients)]
+        for thread in threads:
+            thread.start()
+        for thread in threads:
+            thread.join()
+        check("each write is answered, on its client's one connection", not wrong, wrong[:3])
+        rows = [server.index.applied.get(("books", "%d" % number), []) for number in range(clients)]
+        check("each document has its writes in order", all([it[2] for it in found] == ['{"n":%d}' % turn for turn in range(each)] for found in rows))
+        versions = [[row[0] for row in found] for found in rows]
+        check("versions ascend over the terms", all(it == sorted(set(it)) for it in versions))
+        epochs, shown = {it >> 40 for it in sum(versions, [])}, metrics_of(serve)
+        last = max(epochs)
+        check("each term has the next epoch", epochs == set(range(1, last + 1)) and last >= clients * each // 50, epochs)
+        check("what is shown of the terms", shown["relay_epoch"] == shown["relay_terms_total"] and shown["relay_epoch"] - last in (0, 1), (shown["relay_epoch"], last))
+        status, out, err = serve.stop()
+        said = b"".join(b"epoch %d\n" % it for it in range(2, int(shown["relay_epoch"]) + 1))
+        check("the counts of all terms", (status, out, err) == (0, b"applied %d already 0 reported 0\n" % (clients * each), said), (status, out, err))
+        check("the epoch of the last term is in the file", int(open(path).read()) == shown["relay_epoch"])
 
 
 def late():
@@ -612,4 +655,4 @@ def watched():
     server.close()
 
 
-GROUPS = (documents, bulk, refusals_by_item, refusals_of_requests, faces, framing, broken, faults, killed, epochs, late, turns, stops, down, watched)
+GROUPS = (documents, bulk, refusals_by_item, refusals_of_requests, faces, framing, broken, faults, killed, epochs, terms, late, turns, stops, down, watched)

@@ -38,6 +38,14 @@ use Rattle.relay_front.specs.Texts.{bulk_body, document_body, document_status, f
 abbrev pub Settles : Type 0 → Type 1
 Settles S = S → List Write → List End → S → Type 0
 
+-- nothing is settled
+abbrev pub nothing : {S : Type 0} → Settles S
+nothing old ws ends new = ⊥
+
+-- just these writes are settled, from one state to another, and end so
+abbrev pub just : {S : Type 0} → S → List Write → List End → S → Settles S
+just first all how last old ws ends new = (old ≡ first) × (ws ≡ all) × (ends ≡ how) × (new ≡ last)
+
 -- what is replied: a status and a body; or that memory ran out, before anything was put or after
 pub data Reply : Type 0 where
   Says : (status : ℕ) (text : List ℕ) → Reply

@@ -1,5 +1,5 @@
 -- What the lanes delivered is what the workers put.
-use Rattle.std.proofs.Common.{◌≡◌, ◌≤◌, ℕ, List, length, map, ap, arith, subst, sym, ◌∙◌}
+use Rattle.std.proofs.Common.{◌≡◌, ◌≤◌, ℕ, List, Option, length, map, ap, arith, subst, sym, ◌∙◌}
 use Rattle.std.specs.Prelude.{Bool}
 use Rattle.relay_action.specs.declared.operation.Op.{Op}
 use Rattle.relay_results.specs.Outside.{Outside}
@@ -21,6 +21,8 @@ use Rattle.relay_threads.specs.DeliveryOfAll.{HavePut, AllDelivered}
 use Rattle.relay_threads.specs.Relay.{NoneOut}
 use Rattle.relay_threads.specs.ToldAll.{AllToldOfPuts}
 use Rattle.relay_threads.specs.Together.{AreDeliveredTogether}
+use Rattle.relay_front.specs.declared.face.Face.{Face}
+use Rattle.relay_serve.specs.Answering.{requests_of}
 use Rattle.relay_serve.specs.Configs.{config_in}
 use Rattle.relay_serve.specs.Acknowledged.{told_by}
 use Rattle.relay_serve.specs.Delivered.{IsDelivered}
@@ -29,26 +31,28 @@ use Rattle.relay_serve.specs.Serving.{ops_of}
 use Rattle.relay_serve.specs.Workers.{producer_in}
 use Rattle.relay_serve.proofs.Acknowledging.{told_of_same, all_acknowledged}
 use Rattle.relay_serve.proofs.Pairing.{mapped}
-use Rattle.relay_serve.proofs.Serving.{SettledAndPut, worker_at}
+use Rattle.relay_serve.proofs.Serving.{AnsweredAndPut, worker_at}
 
 pub workers_identities : (ws : List (WindowState Ending)) (cs : List ClosedProducerState) → map identity_of_closed cs ≡ map (λ w. identity_of (producer_in w)) ws → map identity_of_closed cs ≡ map identity_of (map producer_in ws)
 workers_identities ws cs same = same ∙ mapped identity_of producer_in ws
 
 -- what `finish_telling` says of these operations, with the config of the server, and what was met
-pub delivers : {W : Type 0} (describes : W → Bool) (fits : W → Outside → Type 0) (carries : W → Exchange → W → Type 0) (out : W → List ℕ) (epoch : ℕ) (c k : RelayConfig) (queues : List Queue) (rows : List (List ClosedEnd)) (wires : List W) (cs : List ClosedProducerState) (lanes : List (LaneSummary W))
-    (channels : List (Channel Ending)) (takes kept : List (TakeEnd Ending)) (firsts lasts : List LaneTells) → c ≡ config_in epoch k → k.producers ≤ length channels → SettledAndPut queues epoch k.producers (length lasts) cs takes → NoneOut out wires
+pub delivers : {W : Type 0} (describes : W → Bool) (fits : W → Outside → Type 0) (carries : W → Exchange → W → Type 0) (out : W → List ℕ) (face : Face) (index : Option (List ℕ)) (epoch : ℕ) (c k : RelayConfig) (queues : List Queue) (rows : List (List ClosedEnd)) (wires : List W) (cs : List ClosedProducerState) (lanes : List (LaneSummary W))
+    (channels : List (Channel Ending)) (takes kept : List (TakeEnd Ending)) (firsts lasts : List LaneTells) → c ≡ config_in epoch k → k.producers ≤ length channels → AnsweredAndPut face index queues epoch k.producers (length lasts) cs takes → NoneOut out wires
     → ((puts : ℕ → List Op) → HavePut puts 0 cs → AllDelivered describes fits carries c puts rows 0 wires lanes)
     → ((puts : ℕ → List Op) → HavePut puts 0 cs → AreDeliveredTogether describes fits c puts wires lanes)
     → ((puts : ℕ → List Op) → HavePut puts 0 cs → AllToldOfPuts describes fits carries told_by c puts rows 0 wires firsts lasts lanes)
-    → AreNewTells channels 0 firsts → TellOn channels 0 lasts → LanesMet takes lasts → kept ≡ takes → IsDelivered describes fits carries out (config_in epoch k) kept lanes
-delivers describes fits carries out epoch c k queues rows wires cs lanes channels takes kept firsts lasts is enough put none delivered together told new on met same =
-    let puts = ops_of epoch put.requests in
+    → AreNewTells channels 0 firsts → TellOn channels 0 lasts → LanesMet takes lasts → kept ≡ takes → IsDelivered describes fits carries out face index (config_in epoch k) kept lanes
+delivers describes fits carries out face index epoch c k queues rows wires cs lanes channels takes kept firsts lasts is enough put none delivered together told new on met same =
+    let puts = ops_of epoch (λ p. requests_of (put.answers p)) in
     let config = config_in epoch k in
     let all = subst (λ x. AllToldOfPuts describes fits carries told_by x puts rows 0 wires firsts lasts lanes) is (told puts put.put) in
-    subst (λ l. IsDelivered describes fits carries out config l lanes) (sym same) (record {
+    subst (λ l. IsDelivered describes fits carries out face index config l lanes) (sym same) (record {
       queues = queues;
       workers = put.count_is;
-      requests = put.requests;
+      visits = put.visits;
+      answers = put.answers;
+      answered = put.answered;
       settled = put.settled;
       rows = rows;
       wires = wires;

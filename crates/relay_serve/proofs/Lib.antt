@@ -6,4 +6,5 @@ pub mod Serving
 pub mod Meets
 pub mod Acknowledging
 pub mod Delivering
+pub mod Turning
 pub mod Valid

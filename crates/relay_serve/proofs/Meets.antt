@@ -1,5 +1,5 @@
 -- Meeting what was taken with what was told, worker by worker and lane by lane.
-use Rattle.std.proofs.Common.{◌≡◌, ℕ, ◌+◌, List, [], ◌∷◌, ◌++◌, map, refl, ap, sym, ◌∙◌}
+use Rattle.std.proofs.Common.{◌≡◌, ℕ, List, [], ◌∷◌, ◌++◌, map, refl, ap, sym, ◌∙◌}
 use Rattle.relay_receipts.specs.Ends.{Channel, TakeEnd}
 use Rattle.relay_receipts.specs.Notices.{IsWellTaken}
 use Rattle.relay_telling.specs.declared.ending.Ending.{Ending}

@@ -1,6 +1,6 @@
--- What workers settle, one request after another, and what their producers have put by then.
-use Rattle.std.proofs.Common.{◌≡◌, ℕ, zero, suc, ◌+◌, ◌<◌, List, [], ◌∷◌, ◌++◌, length, map, get_or, refl, ap, sym, subst, ◌∙◌, arith, append_assoc, append-nil, inl, inr, add-zero}
-use Rattle.std.proofs.lemmas.List.{map-append}
+-- What workers answer and settle, one call after another, and what their producers have put by then.
+use Rattle.std.proofs.Common.{◌≡◌, ℕ, zero, suc, ◌+◌, ◌<◌, List, [], ◌∷◌, ◌++◌, length, map, get_or, Option, refl, ap, sym, subst, ◌∙◌, arith, append_assoc, append-nil, inl, inr, add-zero}
+use Rattle.std.proofs.lemmas.List.{length-map, map-append}
 use Rattle.std.specs.Prelude.{Some, slice_get}
 use Rattle.relay_action.specs.declared.operation.Op.{Op}
 use Rattle.relay_queue.specs.Ends.{Queue, SenderEnd}
@@ -20,12 +20,19 @@ use Rattle.relay_run.specs.Readers.{named_ops}
 use Rattle.relay_run.proofs.Ending.{put_on, new_none, HavePutAs, put_at}
 use Rattle.relay_front.specs.declared.ending.End.{End}
 use Rattle.relay_front.specs.Operations.{Write}
-use Rattle.relay_front.specs.Service.{Settles as SettlesFor}
-use Rattle.relay_front.proofs.Settling.{IsKept}
+use Rattle.relay_front.specs.declared.face.Face.{Face}
+use Rattle.relay_front.specs.declared.service.Front.{Front}
+use Rattle.relay_front.specs.Service.{Answers, Settles as SettlesFor}
+use Rattle.relay_front.proofs.Settling.{Apart, FrontAnswers, answers_apart}
+use Rattle.relay_ndjson.specs.Metadata.{bytes_given}
+use Rattle.http_server.specs.declared.connection.Connection.{Connection}
+use Rattle.http_server.specs.Connection.{history}
+use Rattle.http_server.specs.Exchange.{Call, Calls, Chain}
 use Rattle.relay_telling.specs.declared.ending.Ending.{Ending}
 use Rattle.relay_telling.specs.New.{channels_of, new_take}
 use Rattle.relay_serve.specs.declared.producing.Producing.{Producing}
-use Rattle.relay_serve.specs.Serving.{Request, AreSettled, Served, GoesOn, HasServed, HaveServed, WorkersSettled, all_put, taken_by}
+use Rattle.relay_serve.specs.Serving.{Request, AreSettled, WorkersSettled, all_put, taken_by}
+use Rattle.relay_serve.specs.Answering.{Answering, AreAnswered, Given, GoesOn, HasServed, HaveServed, Plain, Settling, Visit, WorkersAnswered, call_of, calls_in, given_by, requests_of}
 use Rattle.relay_serve.specs.Settling.{Event, Stays, Settles, AreUnput, puts_in, heard_in}
 use Rattle.std.specs.declared.thread.PromisedHandle.{PromisedHandle}
 use Rattle.relay_serve.specs.declared.workers.WorkerPromise.{WorkerPromise}
@@ -36,29 +43,12 @@ use Rattle.relay_serve.proofs.Putting.{puts_count}
 
 -- ---- request after request
 
-settled_on : (a b c : WindowState Ending) (rs ss : List Request) → AreSettled rs a b → AreSettled ss b c → AreSettled (rs ++ ss) a c
-settled_on a b c [] ss h k = subst (λ s. AreSettled ss s c) h k
-settled_on a b c (r ∷ rs) ss h k = (h.0, h.1, h.2, h.3, settled_on h.0 b c rs ss h.4 k)
-
-served_none : (s : WindowState Ending) → Served s s
-served_none s = record { requests = []; settled = refl }
-
--- what was done from the start on
-pub served_by : (a b : WindowState Ending) → GoesOn a b → Served a b
-served_by a b h = h a (served_none a)
-
-served_one : (a b : WindowState Ending) (ws : List Write) (ends : List End) → Settles a ws ends b → GoesOn a b
-served_one a b ws ends h = λ start s. record {
-  requests = s.requests ++ (let r : Request = record { writes = ws; put = puts_in h.events; heard = heard_in h.events; ends = ends } in r) ∷ [];
-  settled = settled_on start a b s.requests _ s.settled (b, h, refl, refl, refl);
-}
-
 settled_stays : (rs : List Request) (a b : WindowState Ending) → AreSettled rs a b → Stays a b
 settled_stays [] a b h = subst (Stays a) (sym h) (stays_same a)
 settled_stays (r ∷ rs) a b h = stays_on a h.0 b h.1.stays (settled_stays rs h.0 b h.4)
 
-pub same_identity : (a b : WindowState Ending) → Served a b → identity_of b.producer ≡ identity_of a.producer
-same_identity a b h = let s = settled_stays h.requests a b h.settled in λ i. (s.producer i, s.ends i)
+same_identity : (rs : List Request) (a b : WindowState Ending) → AreSettled rs a b → identity_of b.producer ≡ identity_of a.producer
+same_identity rs a b h = let s = settled_stays rs a b h in λ i. (s.producer i, s.ends i)
 
 -- what was taken
 settled_taken : (rs : List Request) (a b : WindowState Ending) → AreSettled rs a b → b.receipts.taken ≡ a.receipts.taken ++ taken_by rs
@@ -66,25 +56,116 @@ settled_taken [] a b h = ap (λ (s : WindowState Ending). s.receipts.taken) h �
 settled_taken (r ∷ rs) a b h =
     settled_taken rs h.0 b h.4 ∙ ap (λ l. l ++ taken_by rs) (h.1.taken ∙ ap (λ l. a.receipts.taken ++ l) h.3) ∙ append_assoc a.receipts.taken r.heard (taken_by rs)
 
-pub served_took : (a b : WindowState Ending) (h : Served a b) → b.receipts ≡ record a.receipts { taken = a.receipts.taken ++ taken_by h.requests }
-served_took a b h =
-    let s = settled_stays h.requests a b h.settled in
-    let taken = settled_taken h.requests a b h.settled in
+settled_took : (rs : List Request) (a b : WindowState Ending) → AreSettled rs a b → b.receipts ≡ record a.receipts { taken = a.receipts.taken ++ taken_by rs }
+settled_took rs a b h =
+    let s = settled_stays rs a b h in
+    let taken = settled_taken rs a b h in
     λ i. (let t : TakeEnd Ending = record { channel = s.channel i; lanes = s.lanes i; taken = taken i } in t)
 
--- what a worker's settler does, and what its calls make
+-- ---- call after call
+
+-- what was answered was settled
+pub settled_of : (face : Face) (index : Option (List ℕ)) (xs : List Answering) (a b : WindowState Ending) → AreAnswered face index xs a b → AreSettled (requests_of xs) a b
+settled_of face index [] a b h = h
+settled_of face index (Plain c ∷ xs) a b h = settled_of face index xs a b h.1
+settled_of face index (Settling c r ∷ xs) a b h = (h.0, h.1, h.2, h.3, settled_of face index xs h.0 b h.5)
+
+answered_on : (face : Face) (index : Option (List ℕ)) (xs bs : List Answering) (a b c : WindowState Ending) → AreAnswered face index xs a b → AreAnswered face index bs b c → AreAnswered face index (xs ++ bs) a c
+answered_on face index [] bs a b c h k = subst (λ s. AreAnswered face index bs s c) h k
+answered_on face index (Plain x ∷ xs) bs a b c h k = (h.0, answered_on face index xs bs a b c h.1 k)
+answered_on face index (Settling x r ∷ xs) bs a b c h k = (h.0, h.1, h.2, h.3, h.4, answered_on face index xs bs h.0 b c h.5 k)
+
+-- what a worker's settler does, and its front
 abbrev pub settles_in : {R : Type 0} → SettlesFor (Producing R)
 settles_in old writes ends new = Settles old.settler.producer writes ends new.settler.producer
 
-abbrev pub GoesOnIn : {R : Type 0} → Producing R → Producing R → Type 0
-GoesOnIn old new = GoesOn old.settler.producer new.settler.producer
+abbrev Fronts : Type 0 → Type 0 → Type 0
+Fronts R I = Front (Producing R) I
 
-pub serves_kept : {R : Type 0} → IsKept (settles_in {R = R}) (GoesOnIn {R = R})
-serves_kept {R} = record {
-  same = λ (s : Producing R) start h. h;
-  on = λ (a b c : Producing R) h k start s. k start (h start s);
-  each = λ (a b : Producing R) ws ends h. served_one a.settler.producer b.settler.producer ws ends h;
+-- these calls were answered
+record Answered (face : Face) (index : Option (List ℕ)) (calls : List Call) (old new : WindowState Ending) : Type 0 where
+  pub answers : List Answering
+  pub shown : map call_of answers ≡ calls
+  pub answered : AreAnswered face index answers old new
+
+one_answered : {R : Type 0} (face : Face) (index : Option (List ℕ)) (c : Call) (calls : List Call) (old next : Producing R) (last : WindowState Ending)
+    → Apart (λ (p : Producing R). p.settler.producer) settles_in (λ s a b. Answers s face index a c.0 c.1 b) old next
+    → Answered face index calls next.settler.producer last → Answered face index (c ∷ calls) old.settler.producer last
+one_answered face index c calls old next last (inl h) k = record {
+  answers = Plain c ∷ k.answers;
+  shown = ap (λ l. c ∷ l) k.shown;
+  answered = (h.1, subst (λ p. AreAnswered face index k.answers p.settler.producer last) h.0 k.answered);
 }
+one_answered face index c calls old next last (inr h) k =
+    let r : Request = record { writes = h.0; put = puts_in h.2.events; heard = heard_in h.2.events; ends = h.1 } in
+    record {
+      answers = Settling c r ∷ k.answers;
+      shown = ap (λ l. c ∷ l) k.shown;
+      answered = (next.settler.producer, h.2, refl, refl, h.3, k.answered);
+    }
+
+-- the calls of a front, which keeps its face and its index
+record KeepsFront {R I : Type 0} (calls : List Call) (old new : Fronts R I) : Type 0 where
+  pub front : (new.face ≡ old.face) × (new.index ≡ old.index)
+  pub answered : Answered old.face (bytes_given old.index) calls old.relay.settler.producer new.relay.settler.producer
+
+calls_answered : {R I : Type 0} (old new : Fronts R I) (calls : List Call) → Chain (FrontAnswers settles_in) old calls new → KeepsFront calls old new
+calls_answered old new [] same = record {
+  front = (ap (λ f. f.face) same, ap (λ f. f.index) same);
+  answered = record { answers = []; shown = refl; answered = ap (λ f. f.relay.settler.producer) same };
+}
+calls_answered {R} {I} old new (c ∷ calls) h =
+    let next : Fronts R I = h.0 in
+    let rest = calls_answered next new calls h.2 in
+    let index = h.1.0 in
+    let face = h.1.1 in
+    let moved : Answered old.face (bytes_given old.index) calls next.relay.settler.producer new.relay.settler.producer =
+    subst (λ (x : Face × Option (List ℕ)). Answered x.0 x.1 calls next.relay.settler.producer new.relay.settler.producer) (λ i. (face i, bytes_given (index i))) rest.answered in
+    record {
+      front = (rest.front.0 ∙ face, rest.front.1 ∙ index);
+      answered =
+          one_answered old.face (bytes_given old.index) c calls old.relay next.relay new.relay.settler.producer
+          (answers_apart (λ (p : Producing R). p.settler.producer) settles_in old.face (bytes_given old.index) old.relay c.0 c.1 next.relay h.1.2) moved;
+    }
+
+pub front_kept : {R I : Type 0} (old new : Fronts R I) (calls : List Call) → Chain (FrontAnswers settles_in) old calls new → (new.face ≡ old.face) × (new.index ≡ old.index)
+front_kept old new calls h = (calls_answered old new calls h).front
+
+-- the calls of a connection
+pub goes_by : {R I : Type 0} (old new : Fronts R I) (before after : Connection) → Calls (FrontAnswers settles_in) old new (history before).calls (history after).calls
+    → GoesOn old.face (bytes_given old.index) old.relay.settler.producer new.relay.settler.producer
+goes_by old new before after h =
+    let kept = calls_answered old new h.0 h.2 in
+    let visit : Visit = record { before = before; after = after; calls = h.0; added = h.1 } in
+    record { visits = visit ∷ []; answers = kept.answered.answers; shown = kept.answered.shown ∙ sym (append-nil h.0); answered = kept.answered.answered }
+
+pub goes_nowhere : (face : Face) (index : Option (List ℕ)) (s : WindowState Ending) → GoesOn face index s s
+goes_nowhere face index s = record { visits = []; answers = []; shown = refl; answered = refl }
+
+calls_append : (vs ws : List Visit) → calls_in (vs ++ ws) ≡ calls_in vs ++ calls_in ws
+calls_append [] ws = refl
+calls_append (v ∷ vs) ws = ap (λ l. v.calls ++ l) (calls_append vs ws) ∙ sym (append_assoc v.calls (calls_in vs) (calls_in ws))
+
+pub goes_on : (face : Face) (index : Option (List ℕ)) (a b c : WindowState Ending) → GoesOn face index a b → GoesOn face index b c → GoesOn face index a c
+goes_on face index a b c h k =
+    let one = h.shown in
+    let two = k.shown in
+    record {
+      visits = h.visits ++ k.visits;
+      answers = h.answers ++ k.answers;
+      shown = map-append call_of h.answers k.answers ∙ (λ i. one i ++ two i) ∙ sym (calls_append h.visits k.visits);
+      answered = answered_on face index h.answers k.answers a b c h.answered k.answered;
+    }
+
+-- from where the front has the same face and the same index
+pub goes_on_as : (face other : Face) (index text : Option (List ℕ)) (a b c : WindowState Ending) → other ≡ face → text ≡ index → GoesOn face index a b → GoesOn other text b c → GoesOn face index a c
+goes_on_as face other index text a b c f t h k = goes_on face index a b c h (subst (λ (x : Face × Option (List ℕ)). GoesOn x.0 x.1 b c) (λ i. (f i, t i)) k)
+
+pub served_identity : (face : Face) (index : Option (List ℕ)) (a b : WindowState Ending) → GoesOn face index a b → identity_of b.producer ≡ identity_of a.producer
+served_identity face index a b h = same_identity (requests_of h.answers) a b (settled_of face index h.answers a b h.answered)
+
+pub served_took : (face : Face) (index : Option (List ℕ)) (a b : WindowState Ending) (h : GoesOn face index a b) → b.receipts ≡ record a.receipts { taken = a.receipts.taken ++ taken_by (requests_of h.answers) }
+served_took face index a b h = settled_took (requests_of h.answers) a b (settled_of face index h.answers a b h.answered)
 
 -- ---- what was put
 
@@ -156,23 +237,28 @@ settled_put e p (r ∷ rs) old new done epoch producer h puts =
 
 -- ---- one worker
 
-closed_put : (queues : List Queue) (epoch p : ℕ) (start : WindowState Ending) (c : ClosedProducerState) (t : TakeEnd Ending) → start.producer ≡ new_producer queues epoch p → (h : HasServed start c t)
-    → HasPut p c.put (closed_puts c.ends) (named_ops epoch p 1 (all_put h.served.requests))
-closed_put queues epoch p start c t is h =
+closed_put : (queues : List Queue) (epoch p : ℕ) (g : Given) (c : ClosedProducerState) (t : TakeEnd Ending) → g.producer.producer ≡ new_producer queues epoch p → (h : HasServed g c t)
+    → HasPut p c.put (closed_puts c.ends) (named_ops epoch p 1 (all_put (requests_of h.served.answers)))
+closed_put queues epoch p g c t is h =
+    let start = g.producer in
+    let requests = requests_of h.served.answers in
     let none : HasPut p start.producer.put (open_puts start.producer.ends) [] =
     subst (λ (s : ProducerState). HasPut p s.put (open_puts s.ends) []) (sym is) (new_none queues epoch p) in
-    let all = settled_put epoch p h.served.requests start h.last [] (ap (λ (s : ProducerState). s.epoch) is) (ap (λ (s : ProducerState). s.producer) is) h.served.settled none in
+    let all = settled_put epoch p requests start h.last [] (ap (λ (s : ProducerState). s.epoch) is) (ap (λ (s : ProducerState). s.producer) is) (settled_of g.face g.index h.served.answers start h.last h.served.answered) none in
     let first : start.producer.put + 1 ≡ 1 = ap (λ (s : ProducerState). s.put + 1) is in
-    let kept = put_kept p h.last.producer.put h.last.producer.ends c.ends (named_ops epoch p (start.producer.put + 1) (all_put h.served.requests)) h.closes all in
-    subst (λ (x : ℕ × ℕ). HasPut p x.0 (closed_puts c.ends) (named_ops epoch p x.1 (all_put h.served.requests))) (λ i. (sym h.same.1 i, first i)) kept
+    let kept = put_kept p h.last.producer.put h.last.producer.ends c.ends (named_ops epoch p (start.producer.put + 1) (all_put requests)) h.closes all in
+    subst (λ (x : ℕ × ℕ). HasPut p x.0 (closed_puts c.ends) (named_ops epoch p x.1 (all_put requests))) (λ i. (sym h.same.1 i, first i)) kept
 
 -- ---- all of them
 
--- the same with the requests of each in a list
-abbrev pub SettledAs : List Queue → ℕ → ℕ → List (List Request) → Type 0
-SettledAs queues epoch p [] = Unit {0}
-SettledAs queues epoch p (rs ∷ all) =
-    ((start : WindowState Ending) × (last : WindowState Ending) × (start.producer ≡ new_producer queues epoch p) × AreSettled rs start last) × SettledAs queues epoch (p + 1) all
+-- the same with the connections and the calls of each in lists
+abbrev pub AnsweredAs : Face → Option (List ℕ) → List Queue → ℕ → ℕ → List (List Visit) → List (List Answering) → Type 0
+AnsweredAs face index queues epoch p [] [] = Unit {0}
+AnsweredAs face index queues epoch p [] (xs ∷ more) = ⊥
+AnsweredAs face index queues epoch p (vs ∷ all) [] = ⊥
+AnsweredAs face index queues epoch p (vs ∷ all) (xs ∷ more) =
+    ((start : WindowState Ending) × (last : WindowState Ending) × (start.producer ≡ new_producer queues epoch p) × (map call_of xs ≡ calls_in vs) × AreAnswered face index xs start last)
+    × AnsweredAs face index queues epoch (p + 1) all more
 
 -- from each worker's end of its channel the notices were taken that were taken for these requests
 abbrev pub HaveTaken : List (List Request) → List (WindowState Ending) → List (TakeEnd Ending) → Type 0
@@ -183,55 +269,74 @@ HaveTaken (rs ∷ all) [] ts = ⊥
 HaveTaken (rs ∷ all) (w ∷ ws) [] = ⊥
 HaveTaken (rs ∷ all) (w ∷ ws) (t ∷ ts) = (t ≡ record w.receipts { taken = w.receipts.taken ++ taken_by rs }) × HaveTaken all ws ts
 
-pub record AllServed (queues : List Queue) (epoch p : ℕ) (ws : List (WindowState Ending)) (cs : List ClosedProducerState) (ts : List (TakeEnd Ending)) : Type 0 where
-  pub requests : List (List Request)
-  pub count : length requests ≡ length ws
-  pub settled : SettledAs queues epoch p requests
-  pub put : HavePutAs epoch p (map all_put requests) cs
-  pub took : HaveTaken requests ws ts
+-- what was put for the calls of a worker
+abbrev pub put_for : List Answering → List Write
+put_for xs = all_put (requests_of xs)
+
+pub record AllServed (face : Face) (index : Option (List ℕ)) (queues : List Queue) (epoch p : ℕ) (ws : List (WindowState Ending)) (cs : List ClosedProducerState) (ts : List (TakeEnd Ending)) : Type 0 where
+  pub visits : List (List Visit)
+  pub answers : List (List Answering)
+  pub count : length answers ≡ length ws
+  pub answered : AnsweredAs face index queues epoch p visits answers
+  pub put : HavePutAs epoch p (map put_for answers) cs
+  pub took : HaveTaken (map requests_of answers) ws ts
   pub identities : map identity_of_closed cs ≡ map (λ w. identity_of (producer_in w)) ws
 
-pub all_served : (queues : List Queue) (epoch p : ℕ) (ws : List (WindowState Ending)) (cs : List ClosedProducerState) (ts : List (TakeEnd Ending)) → AreNew queues epoch p (map producer_in ws) → HaveServed ws cs ts → AllServed queues epoch p ws cs ts
-all_served queues epoch p [] [] [] new h = record { requests = []; count = refl; settled = tt; put = tt; took = tt; identities = refl }
-all_served queues epoch p [] [] (t ∷ ts) new h = absurd h
-all_served queues epoch p [] (c ∷ cs) ts new h = absurd h
-all_served queues epoch p (w ∷ ws) [] ts new h = absurd h
-all_served queues epoch p (w ∷ ws) (c ∷ cs) [] new h = absurd h
-all_served queues epoch p (w ∷ ws) (c ∷ cs) (t ∷ ts) new h =
-    let r = all_served queues epoch (p + 1) ws cs ts new.1 h.1 in
+pub all_served : (face : Face) (index : Option (List ℕ)) (queues : List Queue) (epoch p : ℕ) (ws : List (WindowState Ending)) (cs : List ClosedProducerState) (ts : List (TakeEnd Ending)) → AreNew queues epoch p (map producer_in ws) → HaveServed (map (given_by face index) ws) cs ts → AllServed face index queues epoch p ws cs ts
+all_served face index queues epoch p [] [] [] new h = record { visits = []; answers = []; count = refl; answered = tt; put = tt; took = tt; identities = refl }
+all_served face index queues epoch p [] [] (t ∷ ts) new h = absurd h
+all_served face index queues epoch p [] (c ∷ cs) ts new h = absurd h
+all_served face index queues epoch p (w ∷ ws) [] ts new h = absurd h
+all_served face index queues epoch p (w ∷ ws) (c ∷ cs) [] new h = absurd h
+all_served face index queues epoch p (w ∷ ws) (c ∷ cs) (t ∷ ts) new h =
+    let r = all_served face index queues epoch (p + 1) ws cs ts new.1 h.1 in
     let own = h.0.served in
     let same = h.0.identity in
     let others = r.identities in
     record {
-      requests = own.requests ∷ r.requests;
+      visits = own.visits ∷ r.visits;
+      answers = own.answers ∷ r.answers;
       count = ap suc r.count;
-      settled = ((w, h.0.last, new.0, own.settled), r.settled);
-      put = (closed_put queues epoch p w c t new.0 h.0, r.put);
+      answered = ((w, h.0.last, new.0, own.shown, own.answered), r.answered);
+      put = (closed_put queues epoch p (given_by face index w) c t new.0 h.0, r.put);
       took = (h.0.took, r.took);
       identities = λ i. same i ∷ others i;
     }
 
-settled_at : (queues : List Queue) (epoch lanes p : ℕ) (all : ℕ → List Request) (rs : List (List Request)) (ws : List (WindowState Ending)) (ts : List (TakeEnd Ending)) (channels : List (Channel Ending)) → ((k : ℕ) → all (p + k) ≡ get_or rs k [])
-    → SettledAs queues epoch p rs → HaveTaken rs ws ts → map receipts_in ws ≡ map (new_take lanes) channels → WorkersSettled queues epoch all p ts
-settled_at queues epoch lanes p all [] [] [] channels e h took new = tt
-settled_at queues epoch lanes p all [] [] (t ∷ ts) channels e h took new = absurd took
-settled_at queues epoch lanes p all [] (w ∷ ws) ts channels e h took new = absurd took
-settled_at queues epoch lanes p all (r ∷ rs) [] ts channels e h took new = absurd took
-settled_at queues epoch lanes p all (r ∷ rs) (w ∷ ws) [] channels e h took new = absurd took
-settled_at queues epoch lanes p all (r ∷ rs) (w ∷ ws) (t ∷ ts) [] e h took new = absurd (let n : suc (length (map receipts_in ws)) ≡ 0 = ap length new in omega (arith, n))
-settled_at queues epoch lanes p all (r ∷ rs) (w ∷ ws) (t ∷ ts) (c ∷ channels) e h took new =
-    let here : all p ≡ r = ap all (let z : p ≡ p + 0 = omega arith in z) ∙ e 0 in
+answered_at : (face : Face) (index : Option (List ℕ)) (queues : List Queue) (epoch lanes p : ℕ) (visits : ℕ → List Visit) (answers : ℕ → List Answering) (vs : List (List Visit)) (rs : List (List Answering)) (ws : List (WindowState Ending)) (ts : List (TakeEnd Ending)) (channels : List (Channel Ending))
+    → ((k : ℕ) → visits (p + k) ≡ get_or vs k []) → ((k : ℕ) → answers (p + k) ≡ get_or rs k []) → AnsweredAs face index queues epoch p vs rs → HaveTaken (map requests_of rs) ws ts → map receipts_in ws ≡ map (new_take lanes) channels
+    → WorkersAnswered face index queues epoch visits answers p ts
+answered_at face index queues epoch lanes p visits answers [] [] [] [] channels e f h took new = tt
+answered_at face index queues epoch lanes p visits answers [] [] [] (t ∷ ts) channels e f h took new = absurd took
+answered_at face index queues epoch lanes p visits answers [] [] (w ∷ ws) ts channels e f h took new = absurd took
+answered_at face index queues epoch lanes p visits answers [] (r ∷ rs) ws ts channels e f h took new = absurd h
+answered_at face index queues epoch lanes p visits answers (v ∷ vs) [] ws ts channels e f h took new = absurd h
+answered_at face index queues epoch lanes p visits answers (v ∷ vs) (r ∷ rs) [] ts channels e f h took new = absurd took
+answered_at face index queues epoch lanes p visits answers (v ∷ vs) (r ∷ rs) (w ∷ ws) [] channels e f h took new = absurd took
+answered_at face index queues epoch lanes p visits answers (v ∷ vs) (r ∷ rs) (w ∷ ws) (t ∷ ts) [] e f h took new = absurd (let n : suc (length (map receipts_in ws)) ≡ 0 = ap length new in omega (arith, n))
+answered_at face index queues epoch lanes p visits answers (v ∷ vs) (r ∷ rs) (w ∷ ws) (t ∷ ts) (c ∷ channels) e f h took new =
+    let at : p ≡ p + 0 = omega arith in
+    let seen : visits p ≡ v = ap visits at ∙ e 0 in
+    let here : answers p ≡ r = ap answers at ∙ f 0 in
     let own : w.receipts ≡ new_take lanes c = cc in
     let others : map receipts_in ws ≡ map (new_take lanes) channels = cc in (
       record {
         start = h.0.0;
         last = h.0.1;
         new = h.0.2;
-        settled = subst (λ x. AreSettled x h.0.0 h.0.1) (sym here) h.0.3;
-        took = ap (λ (x : TakeEnd Ending). x.taken) took.0 ∙ ap (λ (x : TakeEnd Ending). x.taken ++ taken_by r) own ∙ ap taken_by (sym here);
+        shown = ap (map call_of) here ∙ h.0.3 ∙ sym (ap calls_in seen);
+        answered = subst (λ x. AreAnswered face index x h.0.0 h.0.1) (sym here) h.0.4;
+        took = ap (λ (x : TakeEnd Ending). x.taken) took.0 ∙ ap (λ (x : TakeEnd Ending). x.taken ++ taken_by (requests_of r)) own ∙ ap (λ x. taken_by (requests_of x)) (sym here);
       },
-      settled_at queues epoch lanes (p + 1) all rs ws ts channels (λ k. ap all (let z : p + 1 + k ≡ p + suc k = omega arith in z) ∙ e (suc k)) h.1 took.1 others,
+      answered_at face index queues epoch lanes (p + 1) visits answers vs rs ws ts channels (λ k. ap visits (let z : p + 1 + k ≡ p + suc k = omega arith in z) ∙ e (suc k)) (λ k. ap answers (let z : p + 1 + k ≡ p + suc k = omega arith in z) ∙ f (suc k)) h.1 took.1 others,
     )
+
+workers_settled : (face : Face) (index : Option (List ℕ)) (queues : List Queue) (epoch : ℕ) (visits : ℕ → List Visit) (answers : ℕ → List Answering) (p : ℕ) (ts : List (TakeEnd Ending)) → WorkersAnswered face index queues epoch visits answers p ts → WorkersSettled queues epoch (λ q. requests_of (answers q)) p ts
+workers_settled face index queues epoch visits answers p [] h = tt
+workers_settled face index queues epoch visits answers p (t ∷ ts) h = (
+  record { start = h.0.start; last = h.0.last; new = h.0.new; settled = settled_of face index (answers p) h.0.start h.0.last h.0.answered; took = h.0.took },
+  workers_settled face index queues epoch visits answers (p + 1) ts h.1,
+)
 
 -- each of these ends is of a channel that so many lanes tell on
 abbrev pub AllOfLanes : ℕ → List (TakeEnd Ending) → Type 0
@@ -256,22 +361,22 @@ taken_of_all lanes (r ∷ rs) (w ∷ ws) (t ∷ ts) (c ∷ channels) took new =
     let rest = taken_of_all lanes rs ws ts channels took.1 others in
     record { count = ap suc rest.count; of_lanes = (ap (λ (x : TakeEnd Ending). x.lanes) took.0 ∙ ap (λ (x : TakeEnd Ending). x.lanes) own, rest.of_lanes) }
 
-put_of : (rs : List (List Request)) (k : ℕ) → all_put (get_or rs k []) ≡ get_or (map all_put rs) k []
+put_of : (rs : List (List Answering)) (k : ℕ) → put_for (get_or rs k []) ≡ get_or (map put_for rs) k []
 put_of [] zero = refl
 put_of [] (suc k) = refl
 put_of (r ∷ rs) zero = refl
 put_of (r ∷ rs) (suc k) = put_of rs k
 
 -- each returns its end of the channel that it was given
-pub served_channels : (ws : List (WindowState Ending)) (cs : List ClosedProducerState) (ts : List (TakeEnd Ending)) → HaveServed ws cs ts → channels_of ts ≡ map channel_in ws
-served_channels [] [] [] h = refl
-served_channels [] [] (t ∷ ts) h = absurd h
-served_channels [] (c ∷ cs) ts h = absurd h
-served_channels (w ∷ ws) [] ts h = absurd h
-served_channels (w ∷ ws) (c ∷ cs) [] h = absurd h
-served_channels (w ∷ ws) (c ∷ cs) (t ∷ ts) h =
+pub served_channels : (face : Face) (index : Option (List ℕ)) (ws : List (WindowState Ending)) (cs : List ClosedProducerState) (ts : List (TakeEnd Ending)) → HaveServed (map (given_by face index) ws) cs ts → channels_of ts ≡ map channel_in ws
+served_channels face index [] [] [] h = refl
+served_channels face index [] [] (t ∷ ts) h = absurd h
+served_channels face index [] (c ∷ cs) ts h = absurd h
+served_channels face index (w ∷ ws) [] ts h = absurd h
+served_channels face index (w ∷ ws) (c ∷ cs) [] h = absurd h
+served_channels face index (w ∷ ws) (c ∷ cs) (t ∷ ts) h =
     let same : t.channel ≡ channel_in w = ap (λ (x : TakeEnd Ending). x.channel) h.0.took in
-    let rest = served_channels ws cs ts h.1 in
+    let rest = served_channels face index ws cs ts h.1 in
     λ i. same i ∷ rest i
 
 -- the worker with this number, at this place: the requests that it settled, and what it took for them
@@ -308,25 +413,31 @@ worker_at queues epoch b lanes all (t ∷ ts) settled of_lanes well p (suc k) is
     record { start = r.start; last = r.last; new = r.new; settled = r.settled; take = r.take; at = r.at; took = r.took; lanes_are = r.lanes_are; well = r.well }
 
 -- what is said of them
-pub record SettledAndPut (queues : List Queue) (epoch count lanes : ℕ) (cs : List ClosedProducerState) (ts : List (TakeEnd Ending)) : Type 0 where
-  pub requests : ℕ → List Request
-  pub settled : WorkersSettled queues epoch requests 0 ts
-  pub put : HavePut (λ p. named_ops epoch p 1 (all_put (requests p))) 0 cs
+pub record AnsweredAndPut (face : Face) (index : Option (List ℕ)) (queues : List Queue) (epoch count lanes : ℕ) (cs : List ClosedProducerState) (ts : List (TakeEnd Ending)) : Type 0 where
+  pub visits : ℕ → List Visit
+  pub answers : ℕ → List Answering
+  pub answered : WorkersAnswered face index queues epoch visits answers 0 ts
+  pub settled : WorkersSettled queues epoch (λ p. requests_of (answers p)) 0 ts
+  pub put : HavePut (λ p. named_ops epoch p 1 (put_for (answers p))) 0 cs
   pub count_is : length ts ≡ count
   pub of_lanes : AllOfLanes lanes ts
   pub well : AllWellTaken ts
 
-pub settled_and_put : (queues : List Queue) (epoch count lanes : ℕ) (ws : List (WindowState Ending)) (cs : List ClosedProducerState) (ts : List (TakeEnd Ending)) (channels : List (Channel Ending)) → count ≡ length ws → AllServed queues epoch 0 ws cs ts → map receipts_in ws ≡ map (new_take lanes) channels → AllWellTaken ts
-    → SettledAndPut queues epoch count lanes cs ts
-settled_and_put queues epoch count lanes ws cs ts channels n h new well =
-    let all : ℕ → List Request = λ k. get_or h.requests k [] in
-    let same : (k : ℕ) → all (0 + k) ≡ get_or h.requests k [] = λ k. ap all (let z : 0 + k ≡ k = omega arith in z) in
-    let took = taken_of_all lanes h.requests ws ts channels h.took new in
+pub answered_and_put : (face : Face) (index : Option (List ℕ)) (queues : List Queue) (epoch count lanes : ℕ) (ws : List (WindowState Ending)) (cs : List ClosedProducerState) (ts : List (TakeEnd Ending)) (channels : List (Channel Ending))
+    → count ≡ length ws → AllServed face index queues epoch 0 ws cs ts → map receipts_in ws ≡ map (new_take lanes) channels → AllWellTaken ts → AnsweredAndPut face index queues epoch count lanes cs ts
+answered_and_put face index queues epoch count lanes ws cs ts channels n h new well =
+    let seen : ℕ → List Visit = λ k. get_or h.visits k [] in
+    let all : ℕ → List Answering = λ k. get_or h.answers k [] in
+    let none : (k : ℕ) → 0 + k ≡ k = λ k. omega arith in
+    let took = taken_of_all lanes (map requests_of h.answers) ws ts channels h.took new in
+    let answered = answered_at face index queues epoch lanes 0 seen all h.visits h.answers ws ts channels (λ k. ap seen (none k)) (λ k. ap all (none k)) h.answered h.took new in
     record {
-      requests = all;
-      settled = settled_at queues epoch lanes 0 all h.requests ws ts channels same h.settled h.took new;
-      put = put_at epoch 0 (λ k. all_put (all k)) (map all_put h.requests) cs (λ k. ap all_put (same k) ∙ put_of h.requests k) h.put;
-      count_is = took.count ∙ h.count ∙ sym n;
+      visits = seen;
+      answers = all;
+      answered = answered;
+      settled = workers_settled face index queues epoch seen all 0 ts answered;
+      put = put_at epoch 0 (λ k. put_for (all k)) (map put_for h.answers) cs (λ k. ap (λ m. put_for (all m)) (none k) ∙ put_of h.answers k) h.put;
+      count_is = took.count ∙ length-map h.answers requests_of ∙ h.count ∙ sym n;
       of_lanes = took.of_lanes;
       well = well;
     }
@@ -337,7 +448,7 @@ settled_and_put queues epoch count lanes ws cs ts channels n h new well =
 abbrev pub Threads : Type 0
 Threads = List (PromisedHandle (ClosedProducerState × TakeEnd Ending) WorkerPromise)
 
-served_more : (ws : List (WindowState Ending)) (cs : List ClosedProducerState) (ts : List (TakeEnd Ending)) (w : WindowState Ending) (c : ClosedProducerState) (t : TakeEnd Ending) → HaveServed ws cs ts → HasServed w c t
+served_more : (ws : List Given) (cs : List ClosedProducerState) (ts : List (TakeEnd Ending)) (w : Given) (c : ClosedProducerState) (t : TakeEnd Ending) → HaveServed ws cs ts → HasServed w c t
     → HaveServed (ws ++ w ∷ []) (cs ++ c ∷ []) (ts ++ t ∷ [])
 served_more [] [] [] w c t h k = (k, tt)
 served_more [] [] (z ∷ ts) w c t h k = absurd h
@@ -365,7 +476,7 @@ joins_on hs others later cs new_cs ts new_ts h c t j is k more_cs more_ts = reco
   joined = j.joined ++ h ∷ [];
   all = j.all ∙ ap (λ l. j.joined ++ l) is ∙ sym (append_assoc j.joined (h ∷ []) later);
   served =
-      subst (λ (x : List (WindowState Ending) × List ClosedProducerState × List (TakeEnd Ending)). HaveServed x.0 x.1 x.2) (λ i. (sym (map-append given_to j.joined (h ∷ [])) i, sym more_cs i, sym more_ts i))
+      subst (λ (x : List Given × List ClosedProducerState × List (TakeEnd Ending)). HaveServed x.0 x.1 x.2) (λ i. (sym (map-append given_to j.joined (h ∷ [])) i, sym more_cs i, sym more_ts i))
       (served_more (map given_to j.joined) cs ts (given_to h) c t j.served k);
 }
 

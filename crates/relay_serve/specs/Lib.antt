@@ -3,8 +3,10 @@ pub mod Settling
 pub mod Batches
 pub mod Putting
 pub mod Serving
+pub mod Answering
 pub mod Meeting
 pub mod Acknowledged
 pub mod Delivered
+pub mod Terms
 pub mod Configs
 pub mod Workers

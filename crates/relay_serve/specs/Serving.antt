@@ -1,14 +1,11 @@
 -- The requests that workers settle, one after another, and what their producers have put and taken by then.
-use Rattle.std.specs.Prelude.{◌≡◌, ℕ, ◌+◌, ◌<◌, List, [], ◌∷◌, ◌++◌, flat_map}
+use Rattle.std.specs.Prelude.{◌≡◌, ℕ, ◌+◌, ◌<◌, List, [], ◌∷◌, flat_map}
 use Rattle.relay_action.specs.declared.operation.Op.{Op}
 use Rattle.relay_queue.specs.Ends.{Queue}
-use Rattle.relay_producer.specs.Ends.{ClosesAll}
-use Rattle.relay_producer.specs.States.{ClosedProducerState}
 use Rattle.relay_receipts.specs.Ends.{TakeEnd}
 use Rattle.relay_receipts.specs.Windows.{WindowState}
 use Rattle.relay_receipts.specs.declared.notice.Notice.{Notice}
 use Rattle.relay_threads.specs.Relay.{new_producer}
-use Rattle.relay_run.specs.Identities.{identity_of, identity_of_closed}
 use Rattle.relay_run.specs.Readers.{named_ops}
 use Rattle.relay_front.specs.declared.ending.End.{End}
 use Rattle.relay_front.specs.Operations.{Write}
@@ -29,15 +26,6 @@ AreSettled (r ∷ rs) old new =
     (mid : WindowState Ending) × (settled : Settles old r.writes r.ends mid) × (puts_in settled.events ≡ r.put) × (heard_in settled.events ≡ r.heard)
     × AreSettled rs mid new
 
--- some requests were
-pub record Served (start now : WindowState Ending) : Type 0 where
-  pub requests : List Request
-  pub settled : AreSettled requests start now
-
--- whatever requests were settled before, some were by then
-abbrev pub GoesOn : WindowState Ending → WindowState Ending → Type 0
-GoesOn old new = (start : WindowState Ending) → Served start old → Served start new
-
 -- all that was put for these requests, in order
 abbrev pub all_put : List Request → List Write
 all_put rs = flat_map (λ r. r.put) rs
@@ -49,25 +37,6 @@ ops_of epoch requests p = named_ops epoch p 1 (all_put (requests p))
 -- the notices that were taken for these requests, in order
 abbrev pub taken_by : List Request → List (Notice Ending)
 taken_by rs = flat_map (λ r. r.heard) rs
-
--- A worker with this producer has served some requests, and its producer is closed; from the end of the channel that it was
--- given, the notices were taken that were taken for these requests, and no others.
-pub record HasServed (old : WindowState Ending) (closed : ClosedProducerState) (receipts : TakeEnd Ending) : Type 0 where
-  pub last : WindowState Ending
-  pub served : Served old last
-  pub closes : ClosesAll last.producer.ends closed.ends
-  pub same : (closed.producer ≡ last.producer.producer) × (closed.put ≡ last.producer.put)
-  pub identity : identity_of_closed closed ≡ identity_of old.producer
-  pub took : receipts ≡ record old.receipts { taken = old.receipts.taken ++ taken_by served.requests }
-
--- each worker with one of these producers has, in order
-abbrev pub HaveServed : List (WindowState Ending) → List ClosedProducerState → List (TakeEnd Ending) → Type 0
-HaveServed [] [] [] = Unit {0}
-HaveServed [] [] (t ∷ ts) = ⊥
-HaveServed [] (c ∷ cs) ts = ⊥
-HaveServed (w ∷ ws) [] ts = ⊥
-HaveServed (w ∷ ws) (c ∷ cs) [] = ⊥
-HaveServed (w ∷ ws) (c ∷ cs) (t ∷ ts) = HasServed w c t × HaveServed ws cs ts
 
 -- The worker with this number settled these requests, one after another, with a producer of its own, which had put nothing; and
 -- exactly what was taken for them was taken from this end of its channel.

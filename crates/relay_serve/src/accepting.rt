@@ -1,8 +1,6 @@
 //! Accepting connections, and the end of standard input.
 use crate::board::Shared;
-use crate::client::Client;
-use crate::worker::give;
-use crossbeam_channel::Sender;
+use relay_clients::{Client, Parking, Signals};
 use std::alloc::Global;
 use std::hash::RandomState;
 use std::io::Read;
@@ -12,21 +10,21 @@ use std::sync::Wait;
 use std::thread;
 use std::time::{Clock, Duration};
 
-/// How many connections may wait for a worker.
-pub(crate) const CONNECTIONS: usize = 4_096;
-
-/// Accepts connections until the server ends. One that finds no room among those that wait is
-/// closed.
+/// Accepts connections until the server ends, and hands each to the poller. One that is more than may
+/// be open is closed.
 pub(crate) fn accept_all<R: Wait + Clock>(
     rt: &R,
     alloc: Global,
     keys: RandomState,
     listener: &TcpListener,
-    arrived: &Sender<Client, Global>,
+    parking: &Parking,
     shared: &Shared,
 ) {
     for _ in rt.forever() {
         let accepted = listener.accept();
+        // A connection counts as open before it is known whether the server ends: until then the
+        // workers wait for it.
+        let place = shared.places.take();
         if shared.is_ending() {
             return;
         }
@@ -35,10 +33,13 @@ pub(crate) fn accept_all<R: Wait + Clock>(
             thread::sleep(rt, Duration::from_millis(10));
             continue;
         };
-        let Some(client) = Client::new(alloc, keys, stream) else {
+        let Some(place) = place else {
             continue;
         };
-        give(rt, shared, arrived, client);
+        let Some(client) = Client::new(alloc, keys, stream, place) else {
+            continue;
+        };
+        parking.park(rt, client);
     }
 }
 

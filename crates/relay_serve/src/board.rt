@@ -1,19 +1,32 @@
 //! What the threads of a server share.
 use crate::counts::Counts;
+use relay_clients::{Places, Signals};
 use std::alloc::{AllocError, Global};
 use std::sync::Arc;
 use std::sync::atomic::{AtomicU64, Ordering};
 
-/// Whether the server ends, how many connections wait for a worker and how many are served, and what is
-/// counted. Each part is read separately.
+// How many operations of a term may be reported before the next one begins: lanes keep reports until
+// their term ends.
+const REPORTS: u64 = 100_000;
+
+/// Whether the server or its term ends, how many connections wait for a worker and how many are
+/// served, and what is counted. Each part is read separately.
 #[derive(Drop)]
 pub struct Board {
     ending: AtomicU64,
+    turning: AtomicU64,
     failed: AtomicU64,
     waiting: AtomicU64,
     served: AtomicU64,
-    /// The epoch.
-    pub(crate) epoch: u32,
+    /// The connections that are open.
+    pub(crate) places: Places,
+    epoch: AtomicU64,
+    terms: AtomicU64,
+    // How many operations of a term may end before the next one begins.
+    longest: u64,
+    // How many operations had ended when the term began, and how many of them may be reported.
+    ended: AtomicU64,
+    reported: AtomicU64,
     /// What is counted of requests.
     pub(crate) counts: Counts,
     /// What the wires count.
@@ -23,23 +36,88 @@ pub struct Board {
 /// The board of a server.
 pub type Shared = Arc<Board, Global>;
 
+impl Signals for Board {
+    fn is_ending(&self) -> bool {
+        self.ending.load(Ordering::SeqCst) > 0
+    }
+
+    fn are_waiting(&self) -> bool {
+        self.waiting() > 0 || self.is_turning()
+    }
+
+    fn add_waiting(&self) {
+        self.waiting.fetch_add(1, Ordering::SeqCst);
+    }
+
+    fn take_waiting(&self) {
+        self.waiting.fetch_sub(1, Ordering::SeqCst);
+    }
+}
+
 impl Board {
-    /// The board of a server that has just started in this epoch.
-    pub fn shared(alloc: Global, epoch: u32) -> Result<Shared, AllocError> {
+    /// The board of a server whose first term has not begun. After so many operations the next term
+    /// begins.
+    pub fn shared(alloc: Global, longest: u64) -> Result<Shared, AllocError> {
         let counts = Counts::new(alloc)?;
+        let places = Places::new(alloc)?;
         let index = relay_progress::Counts::shared(alloc)?;
         Ok(Arc::new(
             alloc,
             Board {
                 ending: AtomicU64::new(0),
+                turning: AtomicU64::new(0),
                 failed: AtomicU64::new(0),
                 waiting: AtomicU64::new(0),
                 served: AtomicU64::new(0),
-                epoch,
+                places,
+                epoch: AtomicU64::new(0),
+                terms: AtomicU64::new(0),
+                longest,
+                ended: AtomicU64::new(0),
+                reported: AtomicU64::new(0),
                 counts,
                 index,
             },
         )?)
+    }
+
+    /// A term begins, in this epoch.
+    pub(crate) fn begin(&self, epoch: u32) {
+        let ends = self.counts.ends();
+        self.ended.store(ends.all(), Ordering::SeqCst);
+        self.reported.store(ends.reports(), Ordering::SeqCst);
+        self.epoch.store(u64::from(epoch), Ordering::SeqCst);
+        self.terms.fetch_add(1, Ordering::SeqCst);
+        self.turning.store(0, Ordering::SeqCst);
+    }
+
+    /// Has the term end if it is due: so many of its operations have ended, or may be reported. The
+    /// last term goes on while connections are open.
+    pub(crate) fn turn_if_due(&self) {
+        let ends = self.counts.ends();
+        let ended = ends.all().saturating_sub(self.ended.load(Ordering::SeqCst));
+        let reported = ends
+            .reports()
+            .saturating_sub(self.reported.load(Ordering::SeqCst));
+        let is_due = ended >= self.longest || reported >= REPORTS;
+        if is_due && !self.is_ending() {
+            self.turning.store(1, Ordering::SeqCst);
+        }
+    }
+
+    /// Whether the term ends: its workers leave their connections to the next one.
+    pub(crate) fn is_turning(&self) -> bool {
+        self.turning.load(Ordering::SeqCst) > 0
+    }
+
+    /// The epoch of the term.
+    pub(crate) fn epoch(&self) -> u64 {
+        self.epoch.load(Ordering::SeqCst)
+    }
+
+    /// How many terms have begun.
+    pub(crate) fn terms(&self) -> u64 {
+        self.terms.load(Ordering::SeqCst)
     }
 
     /// From now on no further request is taken.
@@ -47,9 +125,9 @@ impl Board {
         self.ending.store(1, Ordering::SeqCst);
     }
 
-    /// Whether no further request is taken.
-    pub fn is_ending(&self) -> bool {
-        self.ending.load(Ordering::SeqCst) > 0
+    /// Whether no further request is taken, and no connection is open.
+    pub(crate) fn has_ended(&self) -> bool {
+        self.is_ending() && self.places.taken() == 0
     }
 
     /// A lane has ended before its time, or a worker could not go on: the server ends.
@@ -61,21 +139,6 @@ impl Board {
     /// Whether it has failed.
     pub fn has_failed(&self) -> bool {
         self.failed.load(Ordering::SeqCst) > 0
-    }
-
-    /// One more connection waits for a worker.
-    pub fn add_waiting(&self) {
-        self.waiting.fetch_add(1, Ordering::SeqCst);
-    }
-
-    /// One connection no longer waits for a worker.
-    pub fn take_waiting(&self) {
-        self.waiting.fetch_sub(1, Ordering::SeqCst);
-    }
-
-    /// Whether connections wait for a worker.
-    pub fn are_waiting(&self) -> bool {
-        self.waiting() > 0
     }
 
     /// How many connections wait for a worker.

@@ -45,6 +45,28 @@ impl Ends {
         gone: 0,
     };
 
+    /// How many ended.
+    pub(crate) fn all(&self) -> u64 {
+        let counts = [
+            self.applied,
+            self.already,
+            self.reported,
+            self.late,
+            self.unput,
+            self.gone,
+        ];
+        let mut all = 0u64;
+        for count in counts {
+            all = all.saturating_add(count);
+        }
+        all
+    }
+
+    /// How many a lane may keep a report of: those that were late may be reported later.
+    pub(crate) fn reports(&self) -> u64 {
+        self.reported.saturating_add(self.late)
+    }
+
     // One more ended so.
     fn add(&mut self, end: &End) {
         let count = match end {

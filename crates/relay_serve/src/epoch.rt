@@ -100,23 +100,33 @@ fn write_epoch(alloc: Global, file: &mut File, epoch: u32) -> Result<(), FileFau
     Ok(())
 }
 
-/// Raises the epoch in a file by one and returns it, with the file, which stays locked until it is
-/// dropped. A file that is absent or empty holds epoch 0.
-pub fn next_epoch(host: &HostRuntime, alloc: Global, path: &str) -> Result<(u32, File), FileFault>
-    ensures { IfOk result (λ given. (1 ≤ given.0) × (given.0 ≤ 4194303)) }
-{
+/// Opens the file of the epoch, and locks it until it is dropped. One that is absent is made, and is
+/// empty.
+pub fn open_epoch(host: &HostRuntime, path: &str) -> Result<File, FileFault> {
     let mut options = OpenOptions::new();
     options.read(true).write(true).create(true);
-    let mut file = options.open(host, path).map_err(|_| FileFault::Device)?;
+    let file = options.open(host, path).map_err(|_| FileFault::Device)?;
     match file.try_lock() {
-        Ok(()) => {}
-        Err(TryLockError::WouldBlock) => return Err(FileFault::Locked),
-        Err(TryLockError::Error(_)) => return Err(FileFault::Device),
+        Ok(()) => Ok(file),
+        Err(TryLockError::WouldBlock) => Err(FileFault::Locked),
+        Err(TryLockError::Error(_)) => Err(FileFault::Device),
     }
-    let old = read_epoch(&mut file)?;
-    if old >= EPOCH_LIMIT {
+}
+
+/// Raises the epoch in a file by one, or to `floor` if that is more, and returns it once the system has
+/// kept it. An empty file holds epoch 0.
+pub fn raise_epoch(alloc: Global, file: &mut File, floor: u32) -> Result<u32, FileFault>
+    ensures within { IfOk result (λ epoch. (1 ≤ epoch) × (epoch ≤ 4194303)) }
+    ensures above { IfOk result (λ epoch. floor ≤ epoch) }
+{
+    if file.seek(SeekFrom::Start(0)).is_err() {
+        return Err(FileFault::Device);
+    }
+    let old = read_epoch(file)?;
+    let epoch = (old + 1).max(floor);
+    if epoch > EPOCH_LIMIT {
         return Err(FileFault::Spent);
     }
-    write_epoch(alloc, &mut file, old + 1)?;
-    Ok((old + 1, file))
+    write_epoch(alloc, file, epoch)?;
+    Ok(epoch)
 }

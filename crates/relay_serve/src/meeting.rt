@@ -65,7 +65,7 @@ fn meet_lane(
 }
 
 /// Meets what each worker took with what each lane told it, and returns what was taken. `Untold`:
-/// something that a lane told a worker was lost. `Start` with `Memory`: allocation failed.
+/// something that a lane told a worker was lost. `Memory`: allocation failed.
 pub(crate) fn meet_all(
     alloc: Global,
     receipts: Vec<ReceiptTake<Ending>>,

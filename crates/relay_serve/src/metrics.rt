@@ -172,7 +172,14 @@ pub(crate) fn metrics_text(alloc: Global, board: &Board) -> Result<Vec<u8>, Allo
         "relay_epoch",
         "gauge",
         "The epoch of the versions.",
-        u64::from(board.epoch),
+        board.epoch(),
+    )?;
+    add_single(
+        &mut text,
+        "relay_terms_total",
+        "counter",
+        "Terms that have begun, each in an epoch above the one before.",
+        board.terms(),
     )?;
     Ok(text)
 }

@@ -35,6 +35,8 @@ pub struct ServeOptions {
     pub within: u64,
     /// For how many milliseconds a client's connection may be idle.
     pub idle: u64,
+    /// After how many operations the next term begins.
+    pub longest: u64,
 }
 
 impl ServeOptions {

@@ -8,6 +8,7 @@ use crate::metrics::metrics_text;
 use crate::settler::Settler;
 use rand_pcg::Pcg64;
 use relay_action::{Action, DocKey, Text};
+use relay_clients::Signals;
 use relay_front::{Front, Ids, Settle, Settled};
 use relay_producer::ClosedProducer;
 use relay_receipts::ReceiptTake;
@@ -31,6 +32,7 @@ impl<'a, R: Wait + Clock> Settle for Producing<'a, R> {
     fn settle(&mut self, writes: Vec<(DocKey, Action)>) -> Result<Settled, AllocError> {
         let settled = self.settler.settle(self.rt, writes)?;
         self.settler.shared.counts.add(&settled);
+        self.settler.shared.turn_if_due();
         Ok(settled)
     }
 

@@ -4,6 +4,7 @@ ghost use Rattle.relay_http.specs.WrittenRequest.{is_host};
 ghost use Rattle.relay_telling.specs.New.{new_take, AreNewTells};
 ghost use Rattle.relay_threads.specs.Relay.{AreNew, NoneOut, new_control};
 ghost use Rattle.relay_wires.specs.Numbers.{numbers};
+ghost use Rattle.relay_serve.specs.Answering.{index_in};
 ghost use Rattle.relay_serve.specs.Configs.{config_in};
 ghost use Rattle.relay_serve.specs.Delivered.{IsDelivered};
 ghost use Rattle.relay_serve.specs.Workers.{channel_in, producer_in, receipts_in};
@@ -69,12 +70,13 @@ where
 /// Starts the lanes and the workers in this epoch, waits until the workers have ended, and then
 /// until the lanes have.
 ///
-/// If the lanes have finished, there are requests for each worker that it has settled, one after
-/// another, and each lane took exactly those of their writes on its documents that were put, and
-/// delivered them as `Relay::finish` says, each lane and all lanes together. It returns what the
-/// workers took from their channels. Whatever requests they settled by which they put and took just
-/// that: an end of a write that says how it ended says what the lane of its document told of that
-/// very operation, and is true.
+/// If the lanes have finished, there are calls of clients for each worker that it has answered, one
+/// after another: the calls of the connections that it served. Each response is the one to its
+/// request for the ends of the writes that were settled for it. Each lane took exactly those of these
+/// writes on its documents that were put, and delivered them as `Relay::finish` says, each lane and
+/// all lanes together. It returns what the workers took from their channels. Whatever requests they
+/// settled by which they put and took just that: an end of a write that says how it ended says what
+/// the lane of its document told of that very operation, and is true.
 pub(crate) fn serve_epoch<R>(
     rt: R,
     host: &HostRuntime,
@@ -90,7 +92,7 @@ where
     requires lanes { options.now.config.lanes ≤ 8 }
     ensures delivered { IfOk result (λ r. IsDelivered ⟦<TcpWire as Wire>⟧.describes
         ⟦<TcpWire as Wire>⟧.fits ⟦<TcpWire as Wire>⟧.carries (λ w. numbers w.out)
-        (config_in epoch options.now.config) r.1.items r.0.lanes.items) }
+        options.now.face (index_in options.now.index) (config_in epoch options.now.config) r.1.items r.0.lanes.items) }
 {
     let (relay, producers, control) = start(rt, host, alloc, options, epoch, shared)?;
     let (closed, receipts, control) = run_workers(

@@ -14,11 +14,13 @@ pub(crate) enum Stopped {
     Untold,
     /// The system gave no random numbers.
     Random,
+    /// An allocation failed after the start.
+    Memory,
 }
 
 impl From<AllocError> for Stopped {
     fn from(_error: AllocError) -> Stopped {
-        Stopped::Start(StartFault::Memory)
+        Stopped::Memory
     }
 }
 

@@ -1,11 +1,14 @@
 //! A worker: a thread that serves one connection after another with its producer.
-ghost use Rattle.relay_serve.specs.Serving.{GoesOn, HasServed};
+ghost use Rattle.std.specs.Prelude.{◌≡◌};
+ghost use Rattle.relay_ndjson.specs.Metadata.{bytes_given};
+ghost use Rattle.relay_serve.specs.Answering.{GoesOn, HasServed};
+ghost use Rattle.relay_serve.specs.Workers.{given_as};
 
 use crate::board::Shared;
-use crate::client::{Client, SLICE, Turn};
 use crate::producing::{Making, MakingIds, Producing, WorkerFront};
 use crate::settler::Settler;
-use crossbeam_channel::{Receiver, RecvTimeoutError, Sender};
+use crossbeam_channel::{Receiver, RecvTimeoutError};
+use relay_clients::{Client, Parking, Signals, Turn};
 use relay_front::{Face, Front};
 use relay_producer::ClosedProducer;
 use relay_receipts::ReceiptTake;
@@ -32,45 +35,45 @@ pub(crate) struct Worker {
     pub(crate) shared: Shared,
 }
 
-// For how many milliseconds to wait for room among the connections that wait.
-const ROOM: u64 = 100;
+// For how many milliseconds a worker waits for a connection before it looks whether its term ends.
+const SLICE: u64 = 50;
 
-/// Puts a connection behind those that wait for a worker. One that finds no room is closed.
-pub(crate) fn give<R: Wait + Clock>(
+// Serves a connection for a turn.
+fn serve_turn<R: Wait + Clock>(
     rt: &R,
+    client: &mut Client,
+    front: &mut WorkerFront<'_, R>,
     shared: &Shared,
-    waiting: &Sender<Client, Global>,
-    client: Client,
-) {
-    shared.add_waiting();
-    if waiting
-        .send_timeout(rt, client, Duration::from_millis(ROOM))
-        .is_err()
-    {
-        shared.take_waiting();
-    }
+    idle: u64,
+) -> Turn
+    ensures front { (front.new.face ≡ front.old.face) × (front.new.index ≡ front.old.index) }
+    ensures on { GoesOn front.old.face (bytes_given front.old.index)
+        front.old.relay.settler.producer front.new.relay.settler.producer }
+{
+    client.serve(rt, front, &**shared, idle)
 }
 
-// Serves the next connection, if one comes within a slice. Returns whether none comes any more.
+// Serves the next connection, if one comes within a slice. One that makes place goes behind those that
+// wait, and one that waits for its client to the poller. Returns whether none comes any more.
 fn serve_next<R: Wait + Clock>(
     rt: &R,
     connections: &Receiver<Client, Global>,
-    waiting: &Sender<Client, Global>,
+    parking: &Parking,
     front: &mut WorkerFront<'_, R>,
     shared: &Shared,
     idle: u64,
 ) -> bool
-    ensures { GoesOn front.old.relay.settler.producer front.new.relay.settler.producer }
+    ensures front { (front.new.face ≡ front.old.face) × (front.new.index ≡ front.old.index) }
+    ensures on { GoesOn front.old.face (bytes_given front.old.index)
+        front.old.relay.settler.producer front.new.relay.settler.producer }
 {
     match connections.recv_timeout(rt, Duration::from_millis(SLICE)) {
-        Ok(client) => {
+        Ok(mut client) => {
             shared.take_waiting();
             shared.add_served();
-            let turn = client.serve(rt, front, shared, idle);
+            let turn = serve_turn(rt, &mut client, front, shared, idle);
             shared.take_served();
-            if let Turn::Waits(client) = turn {
-                give(rt, shared, waiting, client);
-            }
+            parking.pass_on(rt, &**shared, turn, client);
             false
         }
         Err(RecvTimeoutError::Timeout) => false,
@@ -78,19 +81,23 @@ fn serve_next<R: Wait + Clock>(
     }
 }
 
-// Serves one connection after another until the server ends.
+// Serves one connection after another until the term ends, or the server has ended.
 fn serve_all<R: Wait + Clock>(
     rt: &R,
     connections: &Receiver<Client, Global>,
-    waiting: &Sender<Client, Global>,
+    parking: &Parking,
     front: &mut WorkerFront<'_, R>,
     shared: &Shared,
     idle: u64,
 )
-    ensures { GoesOn front.old.relay.settler.producer front.new.relay.settler.producer }
+    ensures { GoesOn front.old.face (bytes_given front.old.index)
+        front.old.relay.settler.producer front.new.relay.settler.producer }
 {
     'clients: for _ in rt.forever() {
-        if shared.is_ending() || serve_next(rt, connections, waiting, front, shared, idle) {
+        if shared.has_ended() || shared.is_turning() {
+            return;
+        }
+        if serve_next(rt, connections, parking, front, shared, idle) {
             return;
         }
     }
@@ -98,16 +105,17 @@ fn serve_all<R: Wait + Clock>(
 }
 
 impl Worker {
-    /// Serves one connection after another until the server ends, and closes. A connection that
-    /// makes place goes behind those that wait. Returns the producer and its end of the channel of
-    /// its receipts.
+    /// Serves one connection after another until the term ends, or the server ends and no connection
+    /// is open, and closes. A connection that makes place goes behind those that wait, and one that
+    /// waits for its client to the poller. Returns the producer and its end of the channel of its
+    /// receipts.
     pub(crate) fn work<R: Wait + Clock>(
         self,
         rt: &R,
         connections: &Receiver<Client, Global>,
-        waiting: &Sender<Client, Global>,
+        parking: &Parking,
     ) -> (ClosedProducer, ReceiptTake<Ending>)
-        ensures { HasServed self.settler.producer result.0 result.1 }
+        ensures { HasServed (given_as self.settings self.settler.producer) result.0 result.1 }
     {
         let Worker {
             settings,
@@ -123,7 +131,7 @@ impl Worker {
             relay: Producing { rt, settler },
             ids: MakingIds { rt, making },
         };
-        serve_all(rt, connections, waiting, &mut front, &shared, idle);
+        serve_all(rt, connections, parking, &mut front, &shared, idle);
         let Front { relay, .. } = front;
         relay.close()
     }

@@ -1,11 +1,10 @@
 //! The threads of workers, from their start to their end.
-ghost use Rattle.std.specs.Prelude.{◌≡◌, ◌<◌, ◌≤◌, IfOk, map};
+ghost use Rattle.std.specs.Prelude.{◌≡◌, ◌<◌, ◌≤◌, IfOk, map, option_map, string_bytes};
 ghost use Rattle.relay_producer.specs.Ends.{identities, open_puts, closed_puts};
-ghost use Rattle.relay_serve.specs.Serving.{HaveServed};
-ghost use Rattle.relay_serve.specs.Workers.{AreUnused, given_to, producer_in, receipts_in};
+ghost use Rattle.relay_serve.specs.Answering.{HaveServed, given_by, index_in};
+ghost use Rattle.relay_serve.specs.Workers.{AreUnused, given_as, given_to, producer_in, receipts_in};
 
 use crate::board::{Shared, share};
-use crate::client::Client;
 use crate::options::ServeOptions;
 use crate::producing::Making;
 use crate::settler::Settler;
@@ -13,6 +12,7 @@ use crate::stopped::Stopped;
 use crate::worker::{Settings, Worker};
 use crossbeam_channel::{Receiver, Sender, bounded};
 use rand_pcg::Pcg64;
+use relay_clients::{Client, Parking};
 use relay_producer::{ClosedControl, ClosedProducer, Control, Producer};
 use relay_receipts::{ReceiptTake, WindowedProducer};
 use relay_run::ticking::tick_until_ended;
@@ -32,12 +32,16 @@ use uuid::ContextV7;
 pub(crate) struct WorkerPromise {
     /// Its producer.
     pub(crate) producer: Snapshot<WindowedProducer<Ending>>,
+    /// What it goes by.
+    pub(crate) settings: Snapshot<Settings>,
 }
 
 impl Promise<(ClosedProducer, ReceiptTake<Ending>)> for WorkerPromise {
-    ghost use Rattle.relay_serve.specs.Serving.{HasServed};
+    ghost use Rattle.relay_serve.specs.Answering.{HasServed};
+    ghost use Rattle.relay_serve.specs.Workers.{given_as};
 
-    ghost kept_by = { λ p ended. HasServed p.producer.value ended.0 ended.1 };
+    ghost kept_by = { λ p ended. HasServed (given_as p.settings.value p.producer.value) ended.0
+        ended.1 };
 }
 
 /// A worker in its thread, which returns its producer, closed, and the end of the channel of its
@@ -48,10 +52,10 @@ pub(crate) type WorkerThread = PromisedHandle<(ClosedProducer, ReceiptTake<Endin
 /// receipts; and the control.
 type Ended = (Vec<ClosedProducer>, Vec<ReceiptTake<Ending>>, ClosedControl);
 
-/// The ends of the channel of connections: those that wait for a worker.
+/// Where workers get connections, and where these go that wait for their clients.
 #[derive(Drop)]
 pub(crate) struct Connections {
-    pub(crate) arrived: Sender<Client, Global>,
+    pub(crate) parking: Parking,
     pub(crate) next: Receiver<Client, Global>,
 }
 
@@ -79,7 +83,9 @@ pub(crate) fn pair_up(
 }
 
 // A text of its own, if there is one.
-fn own(alloc: Global, text: &Option<String>) -> Result<Option<String>, AllocError> {
+fn own(alloc: Global, text: &Option<String>) -> Result<Option<String>, AllocError>
+    ensures { IfOk result (λ own. option_map string_bytes own ≡ option_map string_bytes text.now) }
+{
     match text {
         Some(text) => Ok(Some(String::from_str(alloc, text.as_str())?)),
         None => Ok(None),
@@ -103,7 +109,8 @@ fn make_worker(
     producer: WindowedProducer<Ending>,
     shared: &Shared,
 ) -> Result<Worker, Stopped>
-    ensures { IfOk result (λ w. w.settler.producer ≡ producer) }
+    ensures { IfOk result (λ w. given_as w.settings w.settler.producer
+        ≡ given_by options.now.face (index_in options.now.index) producer) }
 {
     let Some(dice) = seed(host) else {
         return Err(Stopped::Random);
@@ -138,19 +145,20 @@ fn spawn_worker<R>(
     rt: R,
     worker: Worker,
     next: Receiver<Client, Global>,
-    waiting: Sender<Client, Global>,
+    parking: Parking,
     ended: Sender<(), Global>,
 ) -> Result<WorkerThread, AllocError>
 where
     R: Threads + Wait + Clock + Copy + Send + 'static,
-    ensures { IfOk result (λ h. h.promise.producer.value ≡ worker.settler.producer) }
+    ensures { IfOk result (λ h. given_to h ≡ given_as worker.settings worker.settler.producer) }
 {
     let promise = WorkerPromise {
         producer: Snapshot::of(&worker.settler.producer),
+        settings: Snapshot::of(&worker.settings),
     };
     Ok(thread::spawn_with(&rt, promise, move || {
         let _ended = ended;
-        worker.work(&rt, &next, &waiting)
+        worker.work(&rt, &next, &parking)
     })?)
 }
 
@@ -167,13 +175,14 @@ fn start_worker<R>(
 ) -> Result<WorkerThread, Stopped>
 where
     R: Threads + Wait + Clock + Copy + Send + 'static,
-    ensures { IfOk result (λ h. h.promise.producer.value ≡ producer) }
+    ensures { IfOk result (λ h. given_to h
+        ≡ given_by options.now.face (index_in options.now.index) producer) }
 {
     let next = connections.next.clone()?;
-    let waiting = connections.arrived.clone()?;
+    let parking = connections.parking.share()?;
     let ended = ended.clone()?;
     let worker = make_worker(host, alloc, options, producer, shared)?;
-    match spawn_worker(rt, worker, next, waiting, ended) {
+    match spawn_worker(rt, worker, next, parking, ended) {
         Ok(thread) => Ok(thread),
         Err(_) => Err(Stopped::Start(StartFault::Thread)),
     }
@@ -192,7 +201,8 @@ fn spawn_workers<R>(
 ) -> Result<Vec<WorkerThread>, Stopped>
 where
     R: Threads + Wait + Clock + Copy + Send + 'static,
-    ensures { IfOk result (λ v. map given_to v.items ≡ producers.items) }
+    ensures { IfOk result (λ v. map given_to v.items
+        ≡ map (given_by options.now.face (index_in options.now.index)) producers.items) }
 {
     let mut threads = Vec::new(alloc);
     'producers: for producer in producers {
@@ -245,7 +255,9 @@ pub(crate) fn run_workers<R>(
 ) -> Result<Ended, Stopped>
 where
     R: Threads + Wait + Clock + Copy + Send + 'static,
-    ensures served { IfOk result (λ r. HaveServed producers.items r.0.items r.1.items) }
+    ensures served { IfOk result (λ r. HaveServed
+        (map (given_by options.now.face (index_in options.now.index)) producers.items)
+        r.0.items r.1.items) }
     ensures control { IfOk result (λ r. identities (closed_puts r.2.ends)
         ≡ identities (open_puts control.ends)) }
 {

@@ -56,6 +56,10 @@ The epoch has to be above those of all earlier runs over the same documents: --e
 `relay run` does; --epoch-file from a file, which is locked while the relay works, and raised and synchronized before
 anything is sent; --epoch gives it. Nobody else may write these documents.
 
+It works in terms: after --turn-after operations, or 100,000 that were refused for good or late, it ends what is open and
+begins the next term in the next epoch, from the same source; connections stay, and wait for that moment. So neither
+versions nor memory run out.
+
 The end of standard input stops it: it takes nothing more, answers what it has, and ends. Standard error gets
 `listening on ADDR, epoch N` at the start, and standard output the counts at the end:
 
@@ -142,8 +146,16 @@ const BYTES: NumberOption = NumberOption {
     help: "Maximum size of the body of a request to the index in bytes, 1024 to 16777216; a single operation may have more",
 };
 
+const TURN_AFTER: NumberOption = NumberOption {
+    name: "turn-after",
+    least: 1,
+    most: 1 << 39,
+    default: "68719476736",
+    help: "Begin the next term, in the next epoch, after so many operations, 1 to 549755813888",
+};
+
 // The numeric options, in the order of the help.
-const NUMBERS: &[NumberOption] = &[WORKERS, LANES, COUNT, BYTES];
+const NUMBERS: &[NumberOption] = &[WORKERS, LANES, COUNT, BYTES, TURN_AFTER];
 
 const TIMEOUT: DurationOption = DurationOption {
     name: "timeout",
@@ -361,6 +373,7 @@ fn options_of(
         patience: given.durations.patience,
         within: u64::from(given.durations.within),
         idle: u64::from(given.durations.idle),
+        longest: TURN_AFTER.get(matches),
     }
 }
 

@@ -1,5 +1,5 @@
 use Rattle.std.proofs.Common.{subst}
-use Rattle.relay_serve.specs.Serving.{HaveServed}
+use Rattle.relay_serve.specs.Answering.{HaveServed}
 use Rattle.relay_serve.proofs.workers.run_workers.Goals as goal
 
 pub returns-clause-served : goal.returns-clause-served

@@ -1,0 +1,547 @@
+//! A client's connection: the steps of `http_server` over its socket.
+ghost use Rattle.std.specs.Prelude.{◌≡◌, IfSome};
+ghost use Rattle.http_server.specs.Connection.{config_of, history};
+ghost use Rattle.http_server.specs.Exchange.{Calls};
+ghost use Rattle.http_server.specs.History.{new_history};
+
+use crate::farewell::Farewell;
+use crate::places::Place;
+use crate::refusing::with_body;
+use crate::signals::Signals;
+use http_server::{Config, Connection, Reason, Service, State};
+use http1::Limits;
+use mio::Interest;
+use std::alloc::{AllocError, Global};
+use std::hash::RandomState;
+use std::io;
+use std::io::ErrorKind;
+use std::marker::Model;
+use std::net::{OpenStream, Shutdown, TcpStream};
+use std::os::fd::{AsRawFd, RawFd};
+use std::sync::Wait;
+use std::time::{Clock, Duration, Instant};
+
+/// The maximum length of a request's body, in bytes.
+pub const BODY_LIMIT: usize = 104_857_600;
+
+// For how many milliseconds a thread waits for a client to send something, or to take it, before it
+// looks whether others wait.
+const SLICE: u64 = 2;
+
+// For how many milliseconds after its last answer a connection stays with its thread if nobody waits:
+// most clients send their next request sooner.
+const KEEP: u64 = 50;
+
+// A client that was waited for in the middle of a request, and of which fewer bytes have come, is not
+// waited for again.
+const SMALL: usize = 256;
+
+// For how many milliseconds a connection is served while others wait.
+const TURN: u64 = 10;
+
+// For how many milliseconds a connection is still served once the server ends: the rest of a request
+// comes, and its answer goes.
+const ENDING: u64 = 10_000;
+
+// With these bytes an answer begins that is followed by another one to the same request.
+const INTERIM: &[u8] = b"HTTP/1.1 100 ";
+
+/// The limits of a connection.
+pub const CONFIG: Config = Config {
+    limits: Limits {
+        max_head_len: 16 * 1024,
+        max_extensions_len: 16 * 1024,
+        max_trailers_len: 16 * 1024,
+    },
+    max_body_len: BODY_LIMIT,
+    max_pending: 64 * 1024,
+    read_size: 8 * 1024,
+};
+
+/// Whether so many milliseconds have gone since then.
+pub(crate) fn is_past<R: Clock>(rt: &R, start: Option<Instant>, millis: u64) -> bool {
+    let Some(start) = start else {
+        return true;
+    };
+    match start.elapsed(rt) {
+        Ok(spent) => spent >= Duration::from_millis(millis),
+        Err(_) => true,
+    }
+}
+
+fn is_timeout(error: &io::Error) -> bool {
+    matches!(error.kind(), ErrorKind::WouldBlock | ErrorKind::TimedOut)
+}
+
+// How far a connection has come.
+#[derive(Clone, Copy, Debug, PartialEq, Eq)]
+enum Phase {
+    // Requests are answered.
+    Serving,
+    // The last answers are sent, with a refusal.
+    Parting,
+    // All is sent, and its own side is shut.
+    Leaving,
+}
+
+/// A client's connection, with what was read and not yet answered, and what was not yet sent. It
+/// can wait for any thread. Contracts see the connection of `http_server`.
+#[derive(Drop)]
+pub struct Client {
+    alloc: Global,
+    stream: TcpStream,
+    connection: Connection,
+    phase: Phase,
+    farewell: Farewell,
+    // When bytes last moved. `None`: they have moved since it was looked at.
+    moved: Option<Instant>,
+    // Whether a request has begun that has not come whole.
+    has_begun: bool,
+    // Whether it has made place since it was served last.
+    has_waited: bool,
+    _place: Place,
+}
+
+impl Model for Client {
+    ghost use Rattle.http_server.specs.declared.connection.Connection.{Connection};
+
+    ghost Value = { Connection };
+
+    ghost view = { λ c. c.connection };
+}
+
+/// What became of a connection in a thread's hands.
+#[derive(Clone, Copy, Debug, PartialEq, Eq)]
+pub enum Turn {
+    /// It has ended, or was idle for too long.
+    Ended,
+    /// It makes place for others after an answer: it goes behind those that wait for a thread.
+    Waits,
+    /// It waits for its client: it goes to the poller.
+    Parks,
+}
+
+// What follows a step of a connection.
+#[derive(Clone, Copy)]
+enum Next {
+    Step,
+    // It makes place for others.
+    Wait,
+    // It goes to the poller.
+    Park,
+    End,
+}
+
+// What a step was.
+#[derive(Clone, Copy)]
+struct Step {
+    // Whether it had bytes to send, and did not read.
+    has_sent: bool,
+    // Whether bytes moved.
+    has_moved: bool,
+    // Whether a few were read.
+    is_small: bool,
+}
+
+// When a turn began, whether in the middle of a request, and when it first saw that the server ends.
+#[derive(Clone, Copy)]
+struct Watch {
+    start: Option<Instant>,
+    has_begun: bool,
+    ending: Option<Instant>,
+}
+
+impl Watch {
+    // What follows a step once the server ends, after which the connection has something to do or not.
+    fn at_end<R: Clock>(&mut self, rt: &R, has_moved: bool, is_resting: bool) -> Next {
+        if self.ending.is_none() {
+            self.ending = Instant::now(rt).ok();
+        }
+        if is_past(rt, self.ending, ENDING) {
+            Next::End
+        } else if has_moved {
+            Next::Step
+        } else if is_resting {
+            Next::End
+        } else {
+            Next::Park
+        }
+    }
+}
+
+// Sends what is pending, or else reads once. Returns how many bytes moved. `Err`: the socket failed,
+// or took nothing.
+fn exchange(connection: &mut Connection, stream: &mut TcpStream) -> io::Result<usize>
+    ensures { (history connection.new).calls ≡ (history connection.old).calls }
+{
+    if connection.wants_write() {
+        match connection.write_to(stream) {
+            Ok(0) => Err(ErrorKind::WriteZero.into()),
+            Ok(count) => Ok(count),
+            Err(error) => Err(error),
+        }
+    } else {
+        match connection.read_from(stream) {
+            Ok(count) => Ok(count),
+            Err(error) => Err(error),
+        }
+    }
+}
+
+// Whether what is sent next is followed by another answer to the same request.
+fn is_interim(output: &[u8]) -> bool {
+    output.starts_with(INTERIM)
+}
+
+impl Client {
+    /// A connection on which nothing was read. `None`: its time limits could not be set.
+    pub fn new(alloc: Global, keys: RandomState, stream: TcpStream, place: Place) -> Option<Client>
+        ensures config { IfSome result (λ c. config_of c ≡ CONFIG) }
+        ensures history { IfSome result (λ c. history c ≡ new_history) }
+    {
+        let slice = Some(Duration::from_millis(SLICE));
+        if stream.set_read_timeout(slice).is_err()
+            || stream.set_write_timeout(slice).is_err()
+            || stream.set_nodelay(true).is_err()
+        {
+            return None;
+        }
+        Some(Client {
+            alloc,
+            stream,
+            connection: Connection::new(alloc, keys, CONFIG),
+            phase: Phase::Serving,
+            farewell: Farewell::new(Vec::new(alloc)),
+            moved: None,
+            has_begun: false,
+            has_waited: false,
+            _place: place,
+        })
+    }
+
+    /// The descriptor of its socket.
+    pub(crate) fn descriptor(&self) -> RawFd {
+        self.stream.as_raw_fd()
+    }
+
+    /// What it waits for.
+    pub(crate) fn interest(&self) -> Interest {
+        if self.wants_write() {
+            Interest::WRITABLE
+        } else {
+            Interest::READABLE
+        }
+    }
+
+    /// Whether its own side is shut, and what still comes is dropped.
+    pub(crate) fn has_left(&self) -> bool {
+        self.phase == Phase::Leaving
+    }
+
+    /// Whether no request has begun, and all answers are sent.
+    pub(crate) fn is_resting(&self) -> bool {
+        self.phase == Phase::Serving && !self.has_begun && !self.connection.wants_write()
+    }
+
+    /// Whether no byte has moved for so many milliseconds.
+    pub(crate) fn is_idle<R: Clock>(&self, rt: &R, idle: u64) -> bool {
+        is_past(rt, self.moved, idle)
+    }
+
+    /// Drops what has come since it left, by way of a buffer. Returns whether more may come.
+    pub(crate) fn drop_some<R: Clock>(&mut self, rt: &R, buffer: &mut [u8]) -> bool {
+        self.farewell.drop_some(rt, &mut self.stream, buffer)
+    }
+
+    /// Whether nothing came for a while since it left, or bytes came for long enough.
+    pub(crate) fn is_over<R: Clock>(&self, rt: &R, is_ending: bool) -> bool {
+        self.farewell.is_over(rt, is_ending)
+    }
+
+    fn wants_write(&self) -> bool {
+        match self.phase {
+            Phase::Serving => self.connection.wants_write(),
+            Phase::Parting => !self.farewell.is_sent(),
+            Phase::Leaving => false,
+        }
+    }
+
+    // Whether all is sent, and nothing more will be.
+    fn is_done(&self) -> bool {
+        match self.phase {
+            Phase::Serving => self.connection.is_done(),
+            Phase::Parting => self.farewell.is_sent(),
+            Phase::Leaving => true,
+        }
+    }
+
+    // Whether the next request was refused by `http_server` itself, just now.
+    fn is_refused(&self) -> bool {
+        self.phase == Phase::Serving
+            && matches!(self.connection.state(), State::Closing(Reason::Refused(_)))
+    }
+
+    // Whether the client has said that it sends nothing more.
+    fn is_at_end(&self) -> bool {
+        matches!(self.connection.state(), State::Closing(Reason::EndOfInput))
+    }
+
+    // Sends what is pending, or else reads once, and answers what was read. Returns how many bytes
+    // moved.
+    fn exchange<S: Service>(&mut self, service: &mut S) -> io::Result<usize>
+        ensures { Calls S.answers service.old service.new (history self.old).calls
+            (history self.new).calls }
+    {
+        let has_sent = self.connection.wants_write();
+        let count = exchange(&mut self.connection, &mut self.stream)?;
+        self.connection.advance(service);
+        if !has_sent {
+            self.has_begun = !self.connection.wants_write() || is_interim(self.connection.output());
+        }
+        Ok(count)
+    }
+
+    // Does a step. Returns what it was: no bytes moved if the client took none or sent none for a
+    // slice. `Err`: the socket failed.
+    fn step<S: Service>(&mut self, service: &mut S) -> io::Result<Step>
+        ensures { Calls S.answers service.old service.new (history self.old).calls
+            (history self.new).calls }
+    {
+        let has_sent = self.wants_write();
+        let done = if self.phase == Phase::Serving {
+            self.exchange(service)
+        } else {
+            self.farewell.send(&mut self.stream)
+        };
+        match done {
+            Ok(count) => Ok(Step {
+                has_sent,
+                has_moved: true,
+                is_small: !has_sent && count < SMALL,
+            }),
+            Err(error) if is_timeout(&error) => Ok(Step {
+                has_sent,
+                has_moved: false,
+                is_small: false,
+            }),
+            Err(error) => Err(error),
+        }
+    }
+
+    // Takes the answers that are pending, and a refusal with a body in place of the one without: these
+    // are sent last. Returns whether allocation succeeded.
+    fn part(&mut self) -> bool
+        ensures { (history self.new).calls ≡ (history self.old).calls }
+    {
+        let Ok(pending) = take_pending(self.alloc, &mut self.connection) else {
+            return false;
+        };
+        let Ok(message) = with_body(self.alloc, pending.as_slice()) else {
+            return false;
+        };
+        self.farewell = Farewell::new(message);
+        self.phase = Phase::Parting;
+        true
+    }
+
+    // Ends the connection in good order: all is sent.
+    fn leave<R: Clock>(&mut self, rt: &R) -> Next
+        ensures { self.new ≡ self.old }
+    {
+        if self.is_at_end()
+            || self.stream.shutdown(Shutdown::Write).is_err()
+            || self.stream.set_nonblocking(true).is_err()
+        {
+            return Next::End;
+        }
+        self.farewell.begin(rt);
+        self.phase = Phase::Leaving;
+        Next::Park
+    }
+
+    /// Notes whether bytes have moved, and else when they last did.
+    pub(crate) fn note<R: Clock>(&mut self, rt: &R, has_moved: bool)
+        ensures { self.new ≡ self.old }
+    {
+        if has_moved {
+            self.moved = None;
+        } else if self.moved.is_none() {
+            self.moved = Instant::now(rt).ok();
+        }
+    }
+
+    // What follows a step.
+    fn next<R: Clock, G: Signals>(
+        &mut self,
+        rt: &R,
+        watch: &mut Watch,
+        step: Step,
+        signals: &G,
+        idle: u64,
+    ) -> Next
+        ensures { self.new ≡ self.old }
+    {
+        self.note(rt, step.has_moved);
+        if signals.is_ending() {
+            return watch.at_end(rt, step.has_moved, self.is_resting());
+        }
+        if step.has_moved {
+            self.after_bytes(rt, watch, step, signals)
+        } else {
+            self.after_none(rt, signals, idle)
+        }
+    }
+
+    // What follows a step that has moved bytes.
+    fn after_bytes<R: Clock, G: Signals>(
+        &self,
+        rt: &R,
+        watch: &Watch,
+        step: Step,
+        signals: &G,
+    ) -> Next {
+        if self.is_slow(watch, step) {
+            Next::Park
+        } else if !signals.are_waiting() || !self.may_make_place(rt, watch, step) {
+            Next::Step
+        } else if self.is_resting() {
+            Next::Wait
+        } else {
+            Next::Park
+        }
+    }
+
+    // What follows a step that has not. If nobody waits, a client may send its next request for a while.
+    fn after_none<R: Clock, G: Signals>(&self, rt: &R, signals: &G, idle: u64) -> Next {
+        if self.is_idle(rt, idle) {
+            Next::End
+        } else if self.is_resting() && !signals.are_waiting() && !self.is_idle(rt, KEEP) {
+            Next::Step
+        } else {
+            Next::Park
+        }
+    }
+
+    // Whether once more a few bytes of a request have come, and not all of it.
+    fn is_slow(&self, watch: &Watch, step: Step) -> bool {
+        let is_part = self.has_begun && !self.wants_write() && !self.is_done();
+        is_part && watch.has_begun && step.is_small
+    }
+
+    // Whether it may make place after a step that has moved bytes: its answer is sent, or it has had its
+    // turn. It tries to send an answer before, and one that is done leaves.
+    fn may_make_place<R: Clock>(&self, rt: &R, watch: &Watch, step: Step) -> bool {
+        let has_tried = step.has_sent || !self.wants_write();
+        let has_turned = self.is_resting() || is_past(rt, watch.start, TURN);
+        has_tried && has_turned && !self.is_done()
+    }
+
+    // Whether its client has sent something by now, or has ended: it is not waited for.
+    fn has_come(&self) -> bool {
+        let mut byte = [0];
+        if self.stream.set_nonblocking(true).is_err() {
+            return true;
+        }
+        let peeked = self.stream.peek(&mut byte);
+        match (peeked, self.stream.set_nonblocking(false)) {
+            (Err(error), Ok(())) => !is_timeout(&error),
+            _ => true,
+        }
+    }
+
+    // Whether it has made place, and its client has still sent nothing.
+    fn is_early(&mut self) -> bool
+        ensures { self.new ≡ self.old }
+    {
+        let has_waited = self.has_waited;
+        self.has_waited = false;
+        has_waited && !self.has_come()
+    }
+
+    // Makes place for others.
+    fn wait(&mut self) -> Turn
+        ensures { self.new ≡ self.old }
+    {
+        self.has_waited = true;
+        Turn::Waits
+    }
+
+    // Does a step. Returns what follows.
+    fn go_on<R: Clock, S: Service, G: Signals>(
+        &mut self,
+        rt: &R,
+        service: &mut S,
+        watch: &mut Watch,
+        signals: &G,
+        idle: u64,
+    ) -> Next
+        ensures { Calls S.answers service.old service.new (history self.old).calls
+            (history self.new).calls }
+    {
+        if self.is_refused() && !self.part() {
+            return Next::End;
+        }
+        if self.is_done() {
+            return self.leave(rt);
+        }
+        match self.step(service) {
+            Ok(step) => self.next(rt, watch, step, signals, idle),
+            Err(_) => Next::End,
+        }
+    }
+
+    /// Serves the connection until it ends or was idle for `idle` milliseconds, or leaves its thread.
+    /// If others wait, it makes place after each answer. It goes to the poller once its client has sent
+    /// nothing, or taken nothing, for 2 ms, or for 50 ms after an answer if nobody waits; after 10 ms of
+    /// a request if others wait, or once more a few bytes of it; and once its last answer was sent. Once
+    /// the server ends, it goes on only for the rest of a request and its answer, and for at most 10 s
+    /// besides the time that the service takes.
+    ///
+    /// What it has called the service for, and what the service answered, is what the connection's
+    /// history shows: the calls of this turn follow those of earlier ones, and lead from the
+    /// service's state before to its state after.
+    pub fn serve<R: Wait + Clock, S: Service, G: Signals>(
+        &mut self,
+        rt: &R,
+        service: &mut S,
+        signals: &G,
+        idle: u64,
+    ) -> Turn
+        ensures { Calls S.answers service.old service.new (history self.old).calls
+            (history self.new).calls }
+    {
+        let mut watch = Watch {
+            start: Instant::now(rt).ok(),
+            has_begun: self.has_begun,
+            ending: None,
+        };
+        if self.moved.is_none() {
+            self.moved = watch.start;
+        }
+        if self.is_early() {
+            return Turn::Parks;
+        }
+        'steps: for _ in rt.forever() {
+            match self.go_on(rt, service, &mut watch, signals, idle) {
+                Next::Step => {}
+                Next::Wait => return self.wait(),
+                Next::Park => return Turn::Parks,
+                Next::End => return Turn::Ended,
+            }
+        }
+        unreachable!()
+    }
+}
+
+// Takes what a connection has to send.
+fn take_pending(alloc: Global, connection: &mut Connection) -> Result<Vec<u8>, AllocError>
+    ensures { (history connection.new).calls ≡ (history connection.old).calls }
+{
+    let mut pending = Vec::new(alloc);
+    'pieces: while connection.wants_write() {
+        let count = connection.output().len();
+        pending.extend_from_slice(connection.output())?;
+        connection.sent(count);
+    }
+    Ok(pending)
+}

@@ -1,0 +1,291 @@
+//! The poller: a thread that holds the connections that wait for their peers, so that they keep no
+//! thread that serves. It asks the system alone which of them may be read or written; what it reads
+//! itself is only what is dropped after the last answer.
+use crate::client::{Client, is_past};
+use crate::parking::{Parking, give};
+use crate::places::CONNECTIONS;
+use crate::signals::Signals;
+use crossbeam_channel::{Receiver, Sender, TryRecvError, bounded};
+use mio::unix::SourceFd;
+use mio::{Events, Poll, Registry, Token, Waker};
+use slab::Slab;
+use std::alloc::Global;
+use std::io;
+use std::net::Net;
+use std::sync::{Arc, Wait};
+use std::time::{Clock, Duration, Instant};
+
+// How long the poller sleeps at most, in milliseconds. As often it looks for connections whose time
+// is over.
+const TICK: u64 = 100;
+
+// The same once the server ends.
+const END_TICK: u64 = 5;
+
+// For how many milliseconds connections are still held once the server ends.
+const ENDING: u64 = 10_000;
+
+// How many connections are looked at after one sleep.
+const EVENTS: usize = 1_024;
+
+// After so many sleeps each connection that is ready was looked at.
+const ALL: usize = CONNECTIONS / EVENTS + 1;
+
+// The length of the buffer for what is dropped.
+const BUFFER: usize = 65_536;
+
+// No connection has this token.
+const WAKER: Token = Token(usize::MAX);
+
+/// Holds connections until their peers have sent something, or take more.
+#[derive(Drop)]
+pub struct Poller {
+    poll: Poll,
+    events: Events,
+    ready: Sender<Client, Global>,
+    inbox: Receiver<Client, Global>,
+    held: Slab<Client>,
+    buffer: Vec<u8>,
+}
+
+// Where a connection goes whose peer has sent something, or takes more.
+#[derive(Drop)]
+struct Floor<'a, R: Wait + Clock, G: Signals> {
+    rt: &'a R,
+    ready: &'a Sender<Client, Global>,
+    signals: &'a G,
+}
+
+impl<'a, R: Wait + Clock, G: Signals> Floor<'a, R, G> {
+    // Puts a connection behind those that wait for a thread that serves them.
+    fn give(&self, client: Client) {
+        give(self.rt, self.ready, self.signals, client);
+    }
+}
+
+// Has a connection reported under its key once it is ready. `Err`: the system cannot.
+fn watch(registry: &Registry, client: &Client, key: usize) -> io::Result<()> {
+    let descriptor = client.descriptor();
+    registry.register(&mut SourceFd(&descriptor), Token(key), client.interest())
+}
+
+// Has a connection reported again, also if it is ready already.
+fn watch_on(registry: &Registry, client: &Client, key: usize) -> io::Result<()> {
+    let descriptor = client.descriptor();
+    registry.reregister(&mut SourceFd(&descriptor), Token(key), client.interest())
+}
+
+fn watch_no_more(registry: &Registry, client: &Client) {
+    let descriptor = client.descriptor();
+    let _ = registry.deregister(&mut SourceFd(&descriptor));
+}
+
+// Drops what has come on a connection that has left. Returns whether it is held on.
+fn drop_some<R: Clock>(
+    rt: &R,
+    registry: &Registry,
+    client: &mut Client,
+    key: usize,
+    buffer: &mut [u8],
+) -> bool {
+    client.drop_some(rt, buffer) && watch_on(registry, client, key).is_ok()
+}
+
+// Hands on the connection with this key, which is ready. Of one that has left, what has come is
+// dropped.
+fn hand_on<R: Wait + Clock, G: Signals>(
+    floor: &Floor<'_, R, G>,
+    registry: &Registry,
+    held: &mut Slab<Client>,
+    key: usize,
+    buffer: &mut [u8],
+) {
+    let Some(client) = held.get_mut(key) else {
+        return;
+    };
+    let has_left = client.has_left();
+    if has_left && drop_some(floor.rt, registry, client, key, buffer) {
+        return;
+    }
+    let Some(client) = held.try_remove(key) else {
+        return;
+    };
+    if !has_left {
+        watch_no_more(registry, &client);
+        floor.give(client);
+    }
+}
+
+// Holds a connection. One that cannot be held is served at once, and one that has left is closed.
+fn hold<R: Wait + Clock, G: Signals>(
+    floor: &Floor<'_, R, G>,
+    registry: &Registry,
+    held: &mut Slab<Client>,
+    client: Client,
+) {
+    let mut client = client;
+    // It is idle from now on, if bytes have moved before.
+    client.note(floor.rt, false);
+    let key = held.vacant_key();
+    let is_watched = watch(registry, &client, key).is_ok();
+    if !is_watched {
+        if !client.has_left() {
+            floor.give(client);
+        }
+        return;
+    }
+    if let Err(failed) = held.insert(client) {
+        let client = failed.value;
+        watch_no_more(registry, &client);
+        if !client.has_left() {
+            floor.give(client);
+        }
+    }
+}
+
+// What is closed at a look at all connections.
+#[derive(Clone, Copy)]
+struct Sweep {
+    // For how many milliseconds a connection may be idle.
+    idle: u64,
+    is_ending: bool,
+    // Whether those that have not left are closed.
+    is_over: bool,
+}
+
+impl Sweep {
+    fn closes<R: Clock>(&self, rt: &R, client: &Client) -> bool {
+        if client.has_left() {
+            return client.is_over(rt, self.is_ending);
+        }
+        self.is_over || (self.is_ending && client.is_resting()) || client.is_idle(rt, self.idle)
+    }
+}
+
+impl Poller {
+    /// A poller that holds no connection, the handle by which it gets some, and where it puts those
+    /// that are ready.
+    pub fn new<N: Net>(
+        net: &N,
+        alloc: Global,
+    ) -> io::Result<(Poller, Parking, Receiver<Client, Global>)> {
+        let poll = Poll::new(net)?;
+        let waker = Arc::new(alloc, Waker::new(poll.registry(), WAKER)?)?;
+        let (sender, inbox) = bounded::<Client, Global>(alloc, CONNECTIONS)?;
+        let (ready, next) = bounded::<Client, Global>(alloc, CONNECTIONS)?;
+        let poller = Poller {
+            poll,
+            events: Events::with_capacity(alloc, EVENTS)?,
+            ready: ready.clone()?,
+            inbox,
+            held: Slab::new(alloc),
+            buffer: Vec::from_elem(alloc, 0u8, BUFFER)?,
+        };
+        let parking = Parking {
+            ready,
+            inbox: sender,
+            waker,
+        };
+        Ok((poller, parking, next))
+    }
+
+    // Sleeps until connections are ready or are handed over, or for so many milliseconds, and hands
+    // on those that are ready.
+    fn turn<R: Wait + Clock, G: Signals>(&mut self, rt: &R, signals: &G, millis: u64) {
+        let floor = Floor {
+            rt,
+            ready: &self.ready,
+            signals,
+        };
+        let time = Duration::from_millis(millis);
+        if self.poll.poll(&mut self.events, Some(time)).is_err() {
+            return;
+        }
+        for event in &self.events {
+            let Token(key) = event.token();
+            hand_on(
+                &floor,
+                self.poll.registry(),
+                &mut self.held,
+                key,
+                self.buffer.as_mut_slice(),
+            );
+        }
+    }
+
+    // Hands on each connection that is ready, also one that was just taken in.
+    fn look_at_all<R: Wait + Clock, G: Signals>(&mut self, rt: &R, signals: &G) {
+        for _ in 0..ALL {
+            self.turn(rt, signals, 0);
+        }
+    }
+
+    // Takes what was handed over. Returns whether nothing will be any more.
+    fn take_in<R: Wait + Clock, G: Signals>(&mut self, rt: &R, signals: &G) -> bool {
+        let floor = Floor {
+            rt,
+            ready: &self.ready,
+            signals,
+        };
+        for _ in 0..CONNECTIONS {
+            match self.inbox.try_recv(rt) {
+                Ok(client) => hold(&floor, self.poll.registry(), &mut self.held, client),
+                Err(TryRecvError::Empty) => return false,
+                Err(TryRecvError::Disconnected) => return true,
+            }
+        }
+        false
+    }
+
+    // Closes connections.
+    fn close<R: Clock>(&mut self, rt: &R, sweep: Sweep) {
+        for key in 0..self.held.capacity() {
+            let closes = match self.held.get(key) {
+                Some(client) => sweep.closes(rt, client),
+                None => false,
+            };
+            if closes {
+                let _closed = self.held.try_remove(key);
+            }
+        }
+    }
+
+    /// Holds connections, and hands each on once it may be read or written. One that was
+    /// idle for `idle` milliseconds is closed. Of one that has had its last answer, what its peer
+    /// still sends is dropped, for at most 10 s and 536,870,912 bytes, until nothing comes for 1 s.
+    ///
+    /// Once the server ends, a connection on which no request has begun is closed, and the others
+    /// after 10 s. It returns once each handle is dropped and no connection is left.
+    pub fn run<R: Wait + Clock, G: Signals>(self, rt: &R, signals: &G, idle: u64) {
+        let mut poller = self;
+        let mut swept = None;
+        let mut ending = None;
+        'turns: for _ in rt.forever() {
+            let is_ending = signals.is_ending();
+            if is_ending && ending.is_none() {
+                ending = Instant::now(rt).ok();
+            }
+            let tick = if is_ending { END_TICK } else { TICK };
+            poller.turn(rt, signals, tick);
+            let is_last = poller.take_in(rt, signals);
+            if is_ending {
+                poller.look_at_all(rt, signals);
+            }
+            if is_last || is_past(rt, swept, tick) {
+                swept = Instant::now(rt).ok();
+                poller.close(
+                    rt,
+                    Sweep {
+                        idle,
+                        is_ending,
+                        is_over: is_last || (is_ending && is_past(rt, ending, ENDING)),
+                    },
+                );
+            }
+            if is_last && poller.held.is_empty() {
+                return;
+            }
+        }
+        unreachable!()
+    }
+}

@@ -1,0 +1,16 @@
+//! What a connection goes by while it is served.
+
+/// What a server tells the threads that serve its connections, and what they tell it.
+pub trait Signals {
+    /// Whether no further request is taken.
+    fn is_ending(&self) -> bool;
+
+    /// Whether other connections wait for a thread that serves them.
+    fn are_waiting(&self) -> bool;
+
+    /// One more connection waits for a thread that serves it.
+    fn add_waiting(&self);
+
+    /// One connection no longer waits for a thread that serves it.
+    fn take_waiting(&self);
+}
