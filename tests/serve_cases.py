@@ -20,13 +20,14 @@ WRITTEN = {"_shards": {"total": 1, "successful": 1, "failed": 0}, "_seq_no": -2,
 
 
 class Serve:
-    """A running `relay serve`, and a connection to it for each thread that asks. If no option says otherwise, its epoch is 0, and a
-    request may take as long as it takes on a busy machine."""
+    """A running `relay serve`, and a connection to it for each thread that asks. If no option says otherwise, its epoch is 0, a
+    request may take as long as it takes on a busy machine, and standard error does not get what goes wrong with the index."""
 
-    def __init__(self, server, *options, epoch=True):
+    def __init__(self, server, *options, epoch=True, log="none"):
         self.port, self.own = free_port(), threading.local()
         more = ["--epoch", "0"] if epoch and not any(it.startswith("--epoch") for it in options) else []
         more += [] if "--answer-within" in options else ["--answer-within", "10m"]
+        more += [] if "--log" in options or not log else ["--log", log]
         args = ["serve", "--listen", "127.0.0.1:%d" % self.port, "--to", "127.0.0.1:%d" % server.port, *options, *more]
         self.process = subprocess.Popen([RELAY, *args], stdin=subprocess.PIPE, stdout=subprocess.PIPE, stderr=subprocess.PIPE)
         self.begun = self.process.stderr.readline()
@@ -638,6 +639,7 @@ def watched():
     buckets = [value for name, value in found.items() if name.startswith("relay_request_seconds_bucket")]
     check("how long the requests took", found["relay_request_seconds_count"] == 2 == buckets[-1] and buckets == sorted(buckets) and len(buckets) == 11, found)
     check("what the index was sent", found["relay_index_operations_total"] == 5 and found["relay_index_requests_total"] == found["relay_index_answers_total"] == server.requests and found["relay_index_up"] == 1, found)
+    check("nothing is open", found["relay_open_operations"] == 0 and found["relay_open_bytes"] < 65536, found)
     check("its connections", found['relay_connections{state="served"}'] >= 1 and found['relay_connections{state="waiting"}'] == 0, found)
     server.close()
     with server.lock:

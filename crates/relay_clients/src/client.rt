@@ -4,19 +4,22 @@ ghost use Rattle.http_server.specs.Connection.{config_of, history};
 ghost use Rattle.http_server.specs.Exchange.{Calls};
 ghost use Rattle.http_server.specs.History.{new_history};
 
+use crate::entrance::Origin;
 use crate::farewell::Farewell;
 use crate::places::Place;
 use crate::refusing::with_body;
+use crate::room::{FREE, PIECE, Share};
 use crate::signals::Signals;
 use http_server::{Config, Connection, Reason, Service, State};
 use http1::Limits;
 use mio::Interest;
+use relay_front::refusal::refusal_message;
 use std::alloc::{AllocError, Global};
 use std::hash::RandomState;
 use std::io;
 use std::io::ErrorKind;
 use std::marker::Model;
-use std::net::{OpenStream, Shutdown, TcpStream};
+use std::net::{OpenStream, Shutdown, SocketAddr, TcpStream};
 use std::os::fd::{AsRawFd, RawFd};
 use std::sync::Wait;
 use std::time::{Clock, Duration, Instant};
@@ -55,7 +58,7 @@ pub const CONFIG: Config = Config {
     },
     max_body_len: BODY_LIMIT,
     max_pending: 64 * 1024,
-    read_size: 8 * 1024,
+    read_size: PIECE as usize,
 };
 
 /// Whether so many milliseconds have gone since then.
@@ -99,6 +102,12 @@ pub struct Client {
     has_begun: bool,
     // Whether it has made place since it was served last.
     has_waited: bool,
+    origin: Origin,
+    // How many bytes of the request were read that has begun, and its share of the room.
+    taken: u64,
+    share: Share,
+    // Since when there is no room for what it would read.
+    starved: Option<Instant>,
     _place: Place,
 }
 
@@ -195,7 +204,14 @@ fn is_interim(output: &[u8]) -> bool {
 
 impl Client {
     /// A connection on which nothing was read. `None`: its time limits could not be set.
-    pub fn new(alloc: Global, keys: RandomState, stream: TcpStream, place: Place) -> Option<Client>
+    pub fn new(
+        alloc: Global,
+        keys: RandomState,
+        stream: TcpStream,
+        origin: Origin,
+        share: Share,
+        place: Place,
+    ) -> Option<Client>
         ensures config { IfSome result (λ c. config_of c ≡ CONFIG) }
         ensures history { IfSome result (λ c. history c ≡ new_history) }
     {
@@ -215,8 +231,22 @@ impl Client {
             moved: None,
             has_begun: false,
             has_waited: false,
+            origin,
+            taken: 0,
+            share,
+            starved: None,
             _place: place,
         })
+    }
+
+    /// What is known of it by the listener that it came to.
+    pub fn origin(&self) -> Origin {
+        self.origin
+    }
+
+    /// The address of its peer, if the system says it.
+    pub fn peer(&self) -> Option<SocketAddr> {
+        self.stream.peer_addr().ok()
     }
 
     /// The descriptor of its socket.
@@ -246,6 +276,19 @@ impl Client {
     /// Whether no byte has moved for so many milliseconds.
     pub(crate) fn is_idle<R: Clock>(&self, rt: &R, idle: u64) -> bool {
         is_past(rt, self.moved, idle)
+    }
+
+    /// Whether it waits for room.
+    pub(crate) fn is_starved(&self) -> bool {
+        self.starved.is_some()
+    }
+
+    /// Whether it has waited for room for as long as it may.
+    pub(crate) fn has_starved<R: Clock>(&self, rt: &R) -> bool {
+        match self.origin.wait {
+            Some(wait) => is_past(rt, self.starved, wait),
+            None => false,
+        }
     }
 
     /// Drops what has come since it left, by way of a buffer. Returns whether more may come.
@@ -297,6 +340,7 @@ impl Client {
         self.connection.advance(service);
         if !has_sent {
             self.has_begun = !self.connection.wants_write() || is_interim(self.connection.output());
+            self.taken = self.taken.saturating_add(count as u64);
         }
         Ok(count)
     }
@@ -339,9 +383,69 @@ impl Client {
         let Ok(message) = with_body(self.alloc, pending.as_slice()) else {
             return false;
         };
+        self.say_last(message);
+        true
+    }
+
+    // Sends this, and nothing after it.
+    fn say_last(&mut self, message: Vec<u8>)
+        ensures { self.new ≡ self.old }
+    {
         self.farewell = Farewell::new(message);
         self.phase = Phase::Parting;
-        true
+        self.free();
+    }
+
+    // Its share of the room is free, unless a request has begun.
+    fn free_if_resting(&mut self)
+        ensures { self.new ≡ self.old }
+    {
+        if !self.has_begun {
+            self.free();
+        }
+    }
+
+    fn free(&mut self)
+        ensures { self.new ≡ self.old }
+    {
+        self.taken = 0;
+        self.share.free();
+    }
+
+    // Whether it would read, and there is room for that.
+    fn has_room(&mut self) -> bool
+        ensures { self.new ≡ self.old }
+    {
+        let reads = self.phase == Phase::Serving && !self.connection.wants_write();
+        let needed = self.taken.saturating_add(PIECE).saturating_sub(FREE);
+        let has_room = !reads || self.share.reach(needed);
+        if has_room && self.starved.is_some() {
+            // Its client was not idle while it was not read.
+            self.starved = None;
+            self.moved = None;
+        }
+        has_room
+    }
+
+    // What follows if there is no room: it waits, and after a time its request is refused.
+    fn starve<R: Clock>(&mut self, rt: &R) -> Next
+        ensures { self.new ≡ self.old }
+    {
+        if self.starved.is_none() {
+            self.starved = Instant::now(rt).ok();
+        }
+        if self.starved.is_some() && !self.has_starved(rt) {
+            return Next::Park;
+        }
+        self.starved = None;
+        match refusal_message(self.alloc, 429) {
+            Ok(message) => {
+                self.share.refuse();
+                self.say_last(message);
+                Next::Step
+            }
+            Err(_) => Next::End,
+        }
     }
 
     // Ends the connection in good order: all is sent.
@@ -484,8 +588,14 @@ impl Client {
         if self.is_done() {
             return self.leave(rt);
         }
+        if !self.has_room() {
+            return self.starve(rt);
+        }
         match self.step(service) {
-            Ok(step) => self.next(rt, watch, step, signals, idle),
+            Ok(step) => {
+                self.free_if_resting();
+                self.next(rt, watch, step, signals, idle)
+            }
             Err(_) => Next::End,
         }
     }

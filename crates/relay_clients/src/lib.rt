@@ -6,15 +6,19 @@
 #![tactic(auto)]
 
 pub mod client;
+pub mod entrance;
 mod farewell;
 pub mod parking;
 pub mod places;
 pub mod poller;
 mod refusing;
+pub mod room;
 pub mod signals;
 
 pub use client::{Client, Turn};
+pub use entrance::{Entrance, Origin};
 pub use parking::Parking;
 pub use places::{CONNECTIONS, Place, Places};
-pub use poller::Poller;
+pub use poller::{Poller, PollerParts};
+pub use room::Room;
 pub use signals::Signals;

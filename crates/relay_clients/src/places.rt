@@ -31,6 +31,13 @@ impl Places {
         self.taken.load(Ordering::SeqCst)
     }
 
+    /// One more handle. `AllocError`: there are too many.
+    pub fn share(&self) -> Result<Places, AllocError> {
+        Ok(Places {
+            taken: Arc::try_clone(&self.taken)?,
+        })
+    }
+
     /// A place for one more connection. `None`: there is none left.
     pub fn take(&self) -> Option<Place> {
         let Ok(taken) = Arc::try_clone(&self.taken) else {

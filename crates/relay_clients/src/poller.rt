@@ -1,15 +1,19 @@
-//! The poller: a thread that holds the connections that wait for their peers, so that they keep no
-//! thread that serves. It asks the system alone which of them may be read or written; what it reads
-//! itself is only what is dropped after the last answer.
+//! The poller: a thread that accepts connections, and holds those that wait for their peers or for room,
+//! so that they keep no thread that serves. It asks the system alone which of them may be read or written;
+//! what it reads itself is only what is dropped after the last answer.
 use crate::client::{Client, is_past};
+use crate::entrance::Entrance;
 use crate::parking::{Parking, give};
-use crate::places::CONNECTIONS;
+use crate::places::{CONNECTIONS, Places};
+use crate::room::Room;
 use crate::signals::Signals;
 use crossbeam_channel::{Receiver, Sender, TryRecvError, bounded};
 use mio::unix::SourceFd;
-use mio::{Events, Poll, Registry, Token, Waker};
+use mio::{Events, Interest, Poll, Registry, Token, Waker};
 use slab::Slab;
 use std::alloc::Global;
+use std::collections::VecDeque;
+use std::hash::RandomState;
 use std::io;
 use std::net::Net;
 use std::sync::{Arc, Wait};
@@ -19,8 +23,11 @@ use std::time::{Clock, Duration, Instant};
 // is over.
 const TICK: u64 = 100;
 
-// The same once the server ends.
-const END_TICK: u64 = 5;
+// The same while connections wait for room, or once the server ends.
+const SHORT_TICK: u64 = 5;
+
+// How many connections that wait for room are handed on at a tick: each may find that others took it.
+const GIVEN: usize = 16;
 
 // For how many milliseconds connections are still held once the server ends.
 const ENDING: u64 = 10_000;
@@ -34,17 +41,35 @@ const ALL: usize = CONNECTIONS / EVENTS + 1;
 // The length of the buffer for what is dropped.
 const BUFFER: usize = 65_536;
 
-// No connection has this token.
+// No connection has this token, nor that of an entrance, which are the ones below it.
 const WAKER: Token = Token(usize::MAX);
 
-/// Holds connections until their peers have sent something, or take more.
+/// What a poller needs of a server.
+#[derive(Drop)]
+pub struct PollerParts {
+    /// Where connections come from.
+    pub entrances: Vec<Entrance>,
+    /// Keys for the tables of connections.
+    pub keys: RandomState,
+    /// How many connections are open.
+    pub places: Places,
+    /// How many bytes of requests are open.
+    pub room: Room,
+}
+
+/// Accepts connections, and holds them until their peers have sent something, or take more, or there is
+/// room for what they send.
 #[derive(Drop)]
 pub struct Poller {
+    alloc: Global,
     poll: Poll,
     events: Events,
+    parts: PollerParts,
     ready: Sender<Client, Global>,
     inbox: Receiver<Client, Global>,
     held: Slab<Client>,
+    // Those that wait for room, in the order in which they came to wait.
+    starved: VecDeque<Client>,
     buffer: Vec<u8>,
 }
 
@@ -60,6 +85,32 @@ impl<'a, R: Wait + Clock, G: Signals> Floor<'a, R, G> {
     // Puts a connection behind those that wait for a thread that serves them.
     fn give(&self, client: Client) {
         give(self.rt, self.ready, self.signals, client);
+    }
+}
+
+// The token of the entrance at this place.
+fn token_of(place: usize) -> Token {
+    Token((usize::MAX - 1).saturating_sub(place))
+}
+
+// Has each entrance reported once connections wait at it. `Err`: the system cannot.
+fn watch_entrances(registry: &Registry, entrances: &[Entrance]) -> io::Result<()> {
+    for (place, entrance) in entrances.iter().enumerate() {
+        let descriptor = entrance.descriptor();
+        registry.register(
+            &mut SourceFd(&descriptor),
+            token_of(place),
+            Interest::READABLE,
+        )?;
+    }
+    Ok(())
+}
+
+// Notes that connections wait at the entrance with this token, if it is one's.
+fn note_ready(entrances: &mut [Entrance], token: Token) {
+    let Token(value) = token;
+    if let Some(entrance) = entrances.get_mut((usize::MAX - 1).saturating_sub(value)) {
+        entrance.set_ready();
     }
 }
 
@@ -116,6 +167,11 @@ fn hand_on<R: Wait + Clock, G: Signals>(
     }
 }
 
+// Has a connection that waits for room wait behind the others. One that cannot wait is closed.
+fn hold_starved(starved: &mut VecDeque<Client>, client: Client) {
+    let _ = starved.push_back(client);
+}
+
 // Holds a connection. One that cannot be held is served at once, and one that has left is closed.
 fn hold<R: Wait + Clock, G: Signals>(
     floor: &Floor<'_, R, G>,
@@ -168,17 +224,22 @@ impl Poller {
     pub fn new<N: Net>(
         net: &N,
         alloc: Global,
+        parts: PollerParts,
     ) -> io::Result<(Poller, Parking, Receiver<Client, Global>)> {
         let poll = Poll::new(net)?;
+        watch_entrances(poll.registry(), &parts.entrances)?;
         let waker = Arc::new(alloc, Waker::new(poll.registry(), WAKER)?)?;
         let (sender, inbox) = bounded::<Client, Global>(alloc, CONNECTIONS)?;
         let (ready, next) = bounded::<Client, Global>(alloc, CONNECTIONS)?;
         let poller = Poller {
+            alloc,
             poll,
             events: Events::with_capacity(alloc, EVENTS)?,
+            parts,
             ready: ready.clone()?,
             inbox,
             held: Slab::new(alloc),
+            starved: VecDeque::new(alloc),
             buffer: Vec::from_elem(alloc, 0u8, BUFFER)?,
         };
         let parking = Parking {
@@ -203,6 +264,7 @@ impl Poller {
         }
         for event in &self.events {
             let Token(key) = event.token();
+            note_ready(&mut self.parts.entrances, event.token());
             hand_on(
                 &floor,
                 self.poll.registry(),
@@ -210,6 +272,66 @@ impl Poller {
                 key,
                 self.buffer.as_mut_slice(),
             );
+        }
+    }
+
+    // Accepts the connections that wait.
+    fn accept<R: Wait + Clock, G: Signals>(&mut self, rt: &R, signals: &G) {
+        let floor = Floor {
+            rt,
+            ready: &self.ready,
+            signals,
+        };
+        for entrance in &mut self.parts.entrances {
+            for _ in 0..CONNECTIONS {
+                let Some(stream) = entrance.accept() else {
+                    break;
+                };
+                let Some(place) = self.parts.places.take() else {
+                    signals.add_refused();
+                    continue;
+                };
+                let Some(share) = self.parts.room.part() else {
+                    continue;
+                };
+                let (keys, origin) = (self.parts.keys, entrance.origin());
+                if let Some(client) = Client::new(self.alloc, keys, stream, origin, share, place) {
+                    hold(&floor, self.poll.registry(), &mut self.held, client);
+                }
+            }
+        }
+    }
+
+    // Accepts what waits, and then nothing more.
+    fn shut<R: Wait + Clock, G: Signals>(&mut self, rt: &R, signals: &G) {
+        for entrance in &mut self.parts.entrances {
+            entrance.set_ready();
+        }
+        self.accept(rt, signals);
+        self.parts.entrances.clear();
+        signals.shut();
+    }
+
+    // Hands on connections that wait for room, if there is some, and each that has waited for long
+    // enough.
+    fn feed<R: Wait + Clock, G: Signals>(&mut self, rt: &R, signals: &G) {
+        let floor = Floor {
+            rt,
+            ready: &self.ready,
+            signals,
+        };
+        let mut given = 0usize;
+        for _ in 0..self.starved.len() {
+            let Some(client) = self.starved.pop_front() else {
+                return;
+            };
+            let may_have_room = given < GIVEN && self.parts.room.has_some();
+            if may_have_room || client.has_starved(rt) || signals.is_ending() {
+                given = given.saturating_add(1);
+                floor.give(client);
+            } else {
+                hold_starved(&mut self.starved, client);
+            }
         }
     }
 
@@ -229,7 +351,13 @@ impl Poller {
         };
         for _ in 0..CONNECTIONS {
             match self.inbox.try_recv(rt) {
-                Ok(client) => hold(&floor, self.poll.registry(), &mut self.held, client),
+                Ok(client) => {
+                    if client.is_starved() {
+                        hold_starved(&mut self.starved, client);
+                    } else {
+                        hold(&floor, self.poll.registry(), &mut self.held, client);
+                    }
+                }
                 Err(TryRecvError::Empty) => return false,
                 Err(TryRecvError::Disconnected) => return true,
             }
@@ -250,23 +378,31 @@ impl Poller {
         }
     }
 
-    /// Holds connections, and hands each on once it may be read or written. One that was
-    /// idle for `idle` milliseconds is closed. Of one that has had its last answer, what its peer
-    /// still sends is dropped, for at most 10 s and 536,870,912 bytes, until nothing comes for 1 s.
+    /// Accepts connections, and hands each on once it may be read or written. One that is more than
+    /// may be open is closed. One that was idle for `idle` milliseconds is closed. Of one that has had
+    /// its last answer, what its peer still sends is dropped, for at most 10 s and 536,870,912 bytes,
+    /// until nothing comes for 1 s.
     ///
-    /// Once the server ends, a connection on which no request has begun is closed, and the others
-    /// after 10 s. It returns once each handle is dropped and no connection is left.
+    /// Once the server ends, it accepts the connections that wait, and then no others. A connection on which
+    /// no request has begun is closed, and the others after 10 s. It returns once each handle is
+    /// dropped and no connection is left.
     pub fn run<R: Wait + Clock, G: Signals>(self, rt: &R, signals: &G, idle: u64) {
         let mut poller = self;
         let mut swept = None;
         let mut ending = None;
+        let mut has_shut = false;
         'turns: for _ in rt.forever() {
             let is_ending = signals.is_ending();
-            if is_ending && ending.is_none() {
+            if is_ending && !has_shut {
                 ending = Instant::now(rt).ok();
+                poller.shut(rt, signals);
+                has_shut = true;
             }
-            let tick = if is_ending { END_TICK } else { TICK };
+            let is_short = is_ending || !poller.starved.is_empty();
+            let tick = if is_short { SHORT_TICK } else { TICK };
             poller.turn(rt, signals, tick);
+            poller.accept(rt, signals);
+            poller.feed(rt, signals);
             let is_last = poller.take_in(rt, signals);
             if is_ending {
                 poller.look_at_all(rt, signals);
@@ -282,7 +418,7 @@ impl Poller {
                     },
                 );
             }
-            if is_last && poller.held.is_empty() {
+            if is_last && poller.held.is_empty() && poller.starved.is_empty() {
                 return;
             }
         }

@@ -13,4 +13,10 @@ pub trait Signals {
 
     /// One connection no longer waits for a thread that serves it.
     fn take_waiting(&self);
+
+    /// A connection was closed as soon as it was accepted, since too many are open.
+    fn add_refused(&self);
+
+    /// No connection is accepted any more.
+    fn shut(&self);
 }

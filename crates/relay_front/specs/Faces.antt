@@ -37,6 +37,10 @@ up = codes "{\"status\":\"up\"}"
 abbrev pub down : List ℕ → List ℕ
 down reason = codes "{\"status\":\"down\",\"reason\":" ++ quoted reason ++ codes "}"
 
+-- `POST /_relay/stop`
+abbrev pub stopping : List ℕ
+stopping = codes "{\"status\":\"stopping\"}"
+
 -- the address that the client used: that of the target, or else what its field `host` shows (RFC 9112, section 3.2)
 abbrev pub IsAddress : Option (List ℕ) → Option FieldValue → List ℕ → Type 0
 IsAddress (Some authority) host address = address ≡ authority

@@ -8,6 +8,7 @@ pub mod Texts
 pub mod Bodies
 pub mod Metadata
 pub mod Operations
+pub mod Asides
 pub mod Faces
 pub mod Fields
 pub mod Service

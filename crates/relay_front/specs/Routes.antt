@@ -13,6 +13,7 @@ pub data Target : Type 0 where
   License : Target
   Health : Target
   Metrics : Target
+  Stop : Target
   IndexExists : Target
   Bulk : (index : Option (List ℕ)) → Target
   Put : (index id : List ℕ) → Target
@@ -31,6 +32,7 @@ target_of route.Nodes = Nodes
 target_of route.License = License
 target_of route.Health = Health
 target_of route.Metrics = Metrics
+target_of route.Stop = Stop
 target_of route.IndexExists = IndexExists
 target_of (route.Bulk index) = Bulk (option_map (λ t. t.now) index)
 target_of (route.Put index id) = Put index.now id.now
@@ -79,6 +81,7 @@ abbrev pub relay_part : List ℕ → List ℕ → Target
 relay_part m b =
     if bytes_eq b (codes "health") then read_by m Health
     else if bytes_eq b (codes "metrics") then read_by m Metrics
+    else if bytes_eq b (codes "stop") then only_by m (codes "POST") Stop
     else Unknown
 
 -- `/A/B` below an index

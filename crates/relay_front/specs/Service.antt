@@ -25,12 +25,12 @@ use Rattle.relay_front.specs.declared.operation.ItemFault.{ItemFault}
 use Rattle.relay_front.specs.declared.replying.Answer.{Answer}
 use Rattle.relay_front.specs.declared.replying.Short.{Short}
 use Rattle.relay_front.specs.declared.replying.Short.TheVariants as short
-use Rattle.relay_front.specs.Faces.{IsAddress, cluster_health, compact_health, down, info_of, is_coded, license, nodes_body, up}
+use Rattle.relay_front.specs.Faces.{IsAddress, cluster_health, compact_health, down, info_of, is_coded, license, nodes_body, stopping, up}
 use Rattle.relay_front.specs.Fields.{HasFields}
 use Rattle.relay_front.specs.Operations.{Write, HasRead, BreaksBody, key_by, source_reason}
 use Rattle.relay_front.specs.Queries.{meaning_of}
 use Rattle.relay_front.specs.Reasons.{reason_of}
-use Rattle.relay_front.specs.Routes.{Target, Info, ClusterHealth, CatHealth, Nodes, License, Health, Metrics, IndexExists, Bulk, Put, Add, Delete, Method, asked_by}
+use Rattle.relay_front.specs.Routes.{Target, Info, ClusterHealth, CatHealth, Nodes, License, Health, Metrics, Stop, IndexExists, Bulk, Put, Add, Delete, Method, asked_by}
 use Rattle.relay_front.specs.Said.{said_by}
 use Rattle.relay_front.specs.Texts.{bulk_body, document_body, document_status, first_end, illegal_argument, refusal_body}
 
@@ -208,6 +208,11 @@ RepliesToWriter settles default target query coded content old reply new =
     ((name : List ℕ) × (meaning_in query ≡ Some name) × (new ≡ old) × Refuses (parameter_reason name) reply)
     ⊎ ((meaning_in query ≡ None) × RepliesByCoding coded settles default target content old reply new)
 
+-- the client may not stop the relay
+abbrev pub RefusesStop : Reply → Type 0
+RefusesStop reply =
+    IsReply 403 (refusal_body 403 illegal_argument (codes "the relay is stopped only by way of a loopback address that it listens at")) reply
+
 -- a request that writes nothing: what is replied is settled by the request and by what the relay says that it is
 abbrev pub RepliesToReader : Face → Target → Parts → Reply → Type 0
 RepliesToReader face Info head reply = IsReply 200 (info_of face) reply
@@ -218,6 +223,7 @@ RepliesToReader face Nodes head reply =
     (address : List ℕ) × IsAddress (uri_authority head.uri) (get head.headers (codes "host")) address × IsReply 200 (nodes_body address) reply
 RepliesToReader face Health head reply = IsReply 200 up reply ⊎ ((reason : List ℕ) × IsReply 503 (down reason) reply)
 RepliesToReader face Metrics head reply = (text : List ℕ) × IsReply 200 text reply
+RepliesToReader face Stop head reply = IsReply 200 stopping reply ⊎ RefusesStop reply
 RepliesToReader face IndexExists head reply = IsReply 200 [] reply
 RepliesToReader face (Method allow) head reply =
     IsReply 405 (refusal_body 405 illegal_argument (codes "the relay does not take this method for this target")) reply

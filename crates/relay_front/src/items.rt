@@ -15,8 +15,12 @@ use crate::text::{add, add_counted, add_error, add_string};
 use relay_action::{DocKey, Text};
 use std::alloc::{AllocError, Global};
 
-// Adds the members that name a document.
-fn add_document(alloc: Global, text: &mut Vec<u8>, key: &DocKey) -> Result<(), AllocError>
+/// Adds the members that name a document.
+pub(crate) fn add_document(
+    alloc: Global,
+    text: &mut Vec<u8>,
+    key: &DocKey,
+) -> Result<(), AllocError>
     ensures { OnOk result
         (text.new.items ≡ text.old.items ++ document_members key.now.index key.now.id) }
 {
@@ -162,8 +166,8 @@ fn first_end<'a>(ends: &'a [End], unput: &'a End) -> &'a End
     }
 }
 
-// The ends of the operations after this one.
-fn ends_after<'a>(item: &Item, ends: &'a [End]) -> &'a [End]
+/// The ends of the operations after this one.
+pub(crate) fn ends_after<'a>(item: &Item, ends: &'a [End]) -> &'a [End]
     ensures { result.now ≡ ends_after item.now ends.now }
 {
     match item {

@@ -6,6 +6,7 @@
 //! says of each how it ended, `items` writes that down, and `service` puts these together.
 #![tactic(auto)]
 
+pub mod aside;
 mod document;
 pub mod ending;
 pub mod face;

@@ -47,6 +47,10 @@ fn broken_reason(status: u16) -> (&'static str, &'static str) {
             "the body has more than 104857600 bytes",
         ),
         414 => ("URI Too Long", "the target is too long"),
+        429 => (
+            "Too Many Requests",
+            "the relay has no room for the request; nothing of it was put",
+        ),
         431 => (
             "Request Header Fields Too Large",
             "the head has more than 64 fields, or more than 16384 bytes",
@@ -73,6 +77,9 @@ pub fn refusal_message(alloc: Global, status: u16) -> Result<Vec<u8>, AllocError
         &mut text,
         "\r\nconnection: close\r\ncontent-type: application/json\r\n",
     )?;
+    if status == 429 {
+        add(&mut text, "retry-after: 1\r\n")?;
+    }
     add_counted(&mut text, "content-length: ", body.len() as u64)?;
     add(&mut text, "\r\n\r\n")?;
     text.extend_from_slice(body.as_slice())?;

@@ -6,11 +6,12 @@ ghost use Rattle.relay_front.specs.Service.{IsReply, Refuses, RepliesToBulk, Rep
 ghost use Rattle.relay_front.specs.Service.{RepliesToPut, RepliesToWrite, fault_text, reply_of};
 ghost use Rattle.relay_front.specs.Texts.{refusal_body};
 
+use crate::aside::{aside_text, have_reports, operation_text};
 use crate::document::on_one_line;
 use crate::ending::End;
 use crate::items::{bulk_text, document_text};
 use crate::lines::{BodyFault, Unread, action_of, key_within, read_operations};
-use crate::operation::{AskedKind, ItemFault};
+use crate::operation::{AskedKind, Item, ItemFault};
 use crate::refusal::{ILLEGAL_ARGUMENT, refusal_text};
 use crate::said::{fault_reason, said_of};
 use crate::settle::{Ids, Settle};
@@ -76,6 +77,40 @@ fn refuse_body(alloc: Global, fault: BodyFault) -> Result<Answer, Short>
     refuse_client(alloc, reason.as_str())
 }
 
+// Sets aside the operations of a body that are reported. Since their sources are gone with the writes, the
+// body is read once more.
+fn set_aside<S: Settle, I: Ids>(
+    alloc: Global,
+    default: Option<&str>,
+    body: &[u8],
+    items: &[Item],
+    ends: &[End],
+    relay: &S,
+    ids: &mut I,
+) {
+    if !relay.sets_aside() || !have_reports(ends) {
+        return;
+    }
+    let lines = match read_operations(alloc, body, default, ids) {
+        Ok(again) => aside_text(alloc, items, &again.writes, ends).ok(),
+        Err(_) => None,
+    };
+    relay.set_aside(lines);
+}
+
+// The same of a request for one document.
+fn set_one_aside<S: Settle>(
+    alloc: Global,
+    key: &DocKey,
+    source: Option<&[u8]>,
+    ends: &[End],
+    relay: &S,
+) {
+    if relay.sets_aside() && have_reports(ends) {
+        relay.set_aside(operation_text(alloc, key, source).ok());
+    }
+}
+
 /// What is replied to a bulk request.
 pub fn reply_to_bulk<S: Settle, I: Ids>(
     alloc: Global,
@@ -93,6 +128,15 @@ pub fn reply_to_bulk<S: Settle, I: Ids>(
         Err(Unread::Body(fault)) => return refuse_body(alloc, fault),
     };
     let settled = relay.settle(operations.writes)?;
+    set_aside(
+        alloc,
+        default,
+        body,
+        &operations.items,
+        &settled.ends,
+        relay,
+        ids,
+    );
     match bulk_text(alloc, settled.took, &operations.items, &settled.ends) {
         Ok(text) => Ok(Answer { status: 200, text }),
         Err(_) => Err(Short::Put),
@@ -119,6 +163,7 @@ fn reply_to_write<S: Settle>(
     made: bool,
     key: &DocKey,
     action: Action,
+    source: Option<&[u8]>,
     relay: &mut S,
 ) -> Result<Answer, Short>
     ensures { RepliesToWrite S.settles kind made key.now action relay.old (reply_of result)
@@ -126,6 +171,7 @@ fn reply_to_write<S: Settle>(
 {
     let writes = one_write(alloc, key, action)?;
     let settled = relay.settle(writes)?;
+    set_one_aside(alloc, key, source, &settled.ends, relay);
     let unput = End::Unput;
     let end = settled.ends.first().unwrap_or(&unput);
     match document_text(alloc, key, said_of(kind, made, end)) {
@@ -152,7 +198,10 @@ pub fn reply_to_put<S: Settle>(
     };
     let source = on_one_line(alloc, body)?;
     match action_of(alloc, &source)? {
-        Ok(action) => reply_to_write(alloc, AskedKind::Index, made, &key, action, relay),
+        Ok(action) => {
+            let kept = Some(source.as_slice());
+            reply_to_write(alloc, AskedKind::Index, made, &key, action, kept, relay)
+        }
         Err(fault) => refuse_item(alloc, &fault),
     }
 }
@@ -173,6 +222,7 @@ pub fn reply_to_delete<S: Settle>(
             false,
             &key,
             Action::delete(),
+            None,
             relay,
         ),
         Err(fault) => refuse_item(alloc, &fault),

@@ -1,9 +1,10 @@
 //! What a request asks for, by its method and its path.
-ghost use Rattle.std.specs.Prelude.{◌≡◌, [], ◌∷◌, MatchOption, option_map};
+ghost use Rattle.std.specs.Prelude.{◌≡◌, [], ◌∷◌, MatchOption, codes, option_map};
 ghost use Rattle.relay_front.specs.Parts.{parts_at};
 ghost use Rattle.relay_front.specs.Routes.{target_of, asked_by, by_parts, without_slash};
 ghost use Rattle.relay_front.specs.Routes.{one_part, two_parts, three_parts, is_reserved};
-ghost use Rattle.relay_front.specs.Routes.{read_by, bulk_by, document_by, below_index, relay_part};
+ghost use Rattle.relay_front.specs.Routes.{Stop, read_by, only_by, bulk_by, document_by};
+ghost use Rattle.relay_front.specs.Routes.{below_index, relay_part};
 
 /// What a request asks for. Parts of the path are as they are there, not yet percent-decoded.
 #[derive(Clone, Copy, Debug, PartialEq, Eq)]
@@ -22,6 +23,8 @@ pub enum Route<'a> {
     Health,
     /// `GET` or `HEAD` of `/_relay/metrics`: what the relay counts.
     Metrics,
+    /// `POST /_relay/stop`: the relay takes no further request.
+    Stop,
     /// `HEAD /INDEX`.
     IndexExists,
     /// `POST` or `PUT` of `/_bulk`, `/INDEX/_bulk` or `/INDEX/_doc/_bulk`.
@@ -149,7 +152,17 @@ fn relay_part<'a>(method: &str, second: &str) -> Route<'a>
     match second {
         "health" => read_only(method, Route::Health),
         "metrics" => read_only(method, Route::Metrics),
+        "stop" => stop(method),
         _ => Route::Unknown,
+    }
+}
+
+fn stop<'a>(method: &str) -> Route<'a>
+    ensures { target_of result ≡ only_by method.now (codes "POST") Stop }
+{
+    match method {
+        "POST" => Route::Stop,
+        _ => Route::Method { allow: "POST" },
     }
 }
 

@@ -6,11 +6,11 @@ ghost use Rattle.http_uri.specs.Uri.{uri_authority};
 ghost use Rattle.http_header.specs.FieldValue.{is_visible_text};
 ghost use Rattle.http_header.specs.HeaderMap.{get};
 ghost use Rattle.http_server.specs.Response.{fields_of};
-ghost use Rattle.relay_front.specs.Faces.{IsAddress, down, is_coded, is_coding, nodes_body, up};
+ghost use Rattle.relay_front.specs.Faces.{IsAddress, down, is_coded, is_coding, nodes_body, stopping, up};
 ghost use Rattle.relay_front.specs.Routes.{target_of};
 ghost use Rattle.relay_front.specs.Fields.{HasFields, allow_of, close_of, media_of, product_of};
-ghost use Rattle.relay_front.specs.Service.{Answers, IsReply, RepliesBy, RepliesToReader};
-ghost use Rattle.relay_front.specs.Service.{does_write, reply_of, status_shown};
+ghost use Rattle.relay_front.specs.Service.{Answers, IsReply, RefusesStop, RepliesBy, RepliesToReader};
+ghost use Rattle.relay_front.specs.Service.{does_write, reply_of, status_shown, target_asked};
 
 use crate::face::Face;
 use crate::refusal::{FAILED_ROOM, ILLEGAL_ARGUMENT, NO_ANSWER, NO_MEMORY};
@@ -62,6 +62,10 @@ const LICENSE: &str =
     "{\"license\":{\"status\":\"active\",\"uid\":\"relay\",\"type\":\"basic\",\"issue_date\":\"2026-01-01T00:00:00.000Z\",\"issue_date_in_millis\":1767225600000,\"max_nodes\":1000,\"issued_to\":\"relay\",\"issuer\":\"relay\",\"start_date_in_millis\":-1}}";
 
 const UP: &str = "{\"status\":\"up\"}";
+
+const STOPPING: &str = "{\"status\":\"stopping\"}";
+
+const NOT_HERE: &str = "the relay is stopped only by way of a loopback address that it listens at";
 
 // Whether a route writes, so that its query and the coding of its body matter.
 fn does_write(route: Route<'_>) -> bool
@@ -147,6 +151,17 @@ impl<'a, S: Settle, I: Ids> Front<'a, S, I> {
         Ok(Answer { status: 503, text })
     }
 
+    // Has the relay stop, if the client may.
+    fn stop(&self) -> Result<Answer, Short>
+        ensures { IsReply 200 stopping (reply_of result) ⊎ RefusesStop (reply_of result) }
+    {
+        if self.relay.stop() {
+            self.text(STOPPING)
+        } else {
+            refuse(self.alloc, 403, ILLEGAL_ARGUMENT, NOT_HERE)
+        }
+    }
+
     // The answer to a request with this route.
     fn respond(&mut self, route: Route<'_>, request: &Request<Bytes>) -> Result<Answer, Short>
         ensures reply { RepliesBy (does_write (target_of route.entry)) S.settles self.old.face
@@ -170,6 +185,27 @@ impl<'a, S: Settle, I: Ids> Front<'a, S, I> {
         self.look(route, request)
     }
 
+    // Answers a request with this route.
+    fn answer(&mut self, route: Route<'_>, request: &Request<Bytes>, response: &mut Response)
+        requires route { target_of route ≡ target_asked request.now }
+        requires none { fields_of response.old ≡ [] }
+        ensures answers { Answers S.settles self.old.face (bytes_given self.old.index) self.old.relay
+            request.now response.new self.new.relay }
+        ensures index { self.new.index ≡ self.old.index }
+        ensures face { self.new.face ≡ self.old.face }
+    {
+        let answer = match self.respond(route, request) {
+            Ok(answer) => answer,
+            Err(Short::Unput) => return fill_short(response, NO_MEMORY),
+            Err(Short::Put) => return fill_short(response, NO_ANSWER),
+        };
+        if self.add_fields(route, response).is_err()
+            || fill(response, answer.status, answer.text).is_err()
+        {
+            fill_short(response, NO_ANSWER);
+        }
+    }
+
     // The answer to a request that writes nothing.
     fn look(&self, route: Route<'_>, request: &Request<Bytes>) -> Result<Answer, Short>
         ensures { RepliesToReader self.now.face (target_of route.entry) (head_of request.now)
@@ -185,6 +221,7 @@ impl<'a, S: Settle, I: Ids> Front<'a, S, I> {
                 status: 200,
                 text: self.relay.metrics(self.alloc)?,
             }),
+            Route::Stop => self.stop(),
             Route::IndexExists => self.text(""),
             Route::CatHealth => self.text(CAT_HEALTH),
             Route::Method { .. } => refuse(
@@ -307,24 +344,9 @@ impl<'a, S: Settle, I: Ids> Service for Front<'a, S, I> {
         response.headers.reserve(4)?;
         response.body.reserve(FAILED_ROOM)?;
         let route = route_of(request.method().as_str(), request.uri().path());
-        let answer = match self.respond(route, request) {
-            Ok(answer) => answer,
-            Err(Short::Unput) => {
-                fill_short(response, NO_MEMORY);
-                return Ok(());
-            }
-            Err(Short::Put) => {
-                fill_short(response, NO_ANSWER);
-                return Ok(());
-            }
-        };
-        if self.add_fields(route, response).is_err() {
-            fill_short(response, NO_ANSWER);
-            return Ok(());
-        }
-        if fill(response, answer.status, answer.text).is_err() {
-            fill_short(response, NO_ANSWER);
-        }
+        let start = self.relay.begin();
+        self.answer(route, request, response);
+        self.relay.note(start, request, response);
         Ok(())
     }
 }

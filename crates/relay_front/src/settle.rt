@@ -5,8 +5,12 @@ ghost use Rattle.relay_action.specs.declared.key.DocKey.{DocKey};
 ghost use Rattle.relay_front.specs.declared.ending.End.{End};
 
 use crate::ending::End;
+use bytes::Bytes;
+use http::Request;
+use http_server::Response;
 use relay_action::{Action, DocKey, Text};
 use std::alloc::{AllocError, Global};
+use std::time::Instant;
 
 /// How the writes of a request ended.
 #[derive(Drop)]
@@ -37,6 +41,21 @@ pub trait Settle {
 
     /// What the relay counts, in the text format of Prometheus. `AllocError`: allocation failed.
     fn metrics(&self, alloc: Global) -> Result<Vec<u8>, AllocError>;
+
+    /// Has the relay take no further request, if whoever asks for it now may. Returns whether that is so.
+    fn stop(&self) -> bool;
+
+    /// Whether operations that are reported are set aside.
+    fn sets_aside(&self) -> bool;
+
+    /// Sets operations aside, as lines of a bulk request. `None`: memory ran out for them.
+    fn set_aside(&self, lines: Option<Vec<u8>>);
+
+    /// A request has come. Returns when, if it is noted how long requests take.
+    fn begin(&self) -> Option<Instant>;
+
+    /// A request that came then is answered so.
+    fn note(&self, start: Option<Instant>, request: &Request<Bytes>, response: &Response);
 }
 
 /// Makes ids for documents.

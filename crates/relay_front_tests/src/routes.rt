@@ -12,6 +12,8 @@ const ROWS: &[(&str, &str, Route<'static>)] = &[
     ("GET", "/_license", Route::License),
     ("GET", "/_relay/health", Route::Health),
     ("HEAD", "/_relay/metrics", Route::Metrics),
+    ("POST", "/_relay/stop", Route::Stop),
+    ("GET", "/_relay/stop", Route::Method { allow: "POST" }),
     ("HEAD", "/books", Route::IndexExists),
     ("PUT", "/books", Route::Method { allow: "HEAD" }),
     ("POST", "/_bulk", Route::Bulk { index: None }),

@@ -1,6 +1,6 @@
 //! What the threads of a server share.
 use crate::counts::Counts;
-use relay_clients::{Places, Signals};
+use relay_clients::{Places, Room, Signals};
 use std::alloc::{AllocError, Global};
 use std::sync::Arc;
 use std::sync::atomic::{AtomicU64, Ordering};
@@ -14,12 +14,21 @@ const REPORTS: u64 = 100_000;
 #[derive(Drop)]
 pub struct Board {
     ending: AtomicU64,
+    shut: AtomicU64,
     turning: AtomicU64,
     failed: AtomicU64,
     waiting: AtomicU64,
     served: AtomicU64,
     /// The connections that are open.
     pub(crate) places: Places,
+    /// The bytes of requests that are open.
+    pub(crate) room: Room,
+    // How many operations were put and have not ended.
+    open: AtomicU64,
+    // How many connections were closed as soon as they were accepted, and how often operations that were to
+    // be set aside were not.
+    refused: AtomicU64,
+    unsaved: AtomicU64,
     epoch: AtomicU64,
     terms: AtomicU64,
     // How many operations of a term may end before the next one begins.
@@ -52,24 +61,38 @@ impl Signals for Board {
     fn take_waiting(&self) {
         self.waiting.fetch_sub(1, Ordering::SeqCst);
     }
+
+    fn add_refused(&self) {
+        self.refused.fetch_add(1, Ordering::SeqCst);
+    }
+
+    fn shut(&self) {
+        self.shut.store(1, Ordering::SeqCst);
+    }
 }
 
 impl Board {
-    /// The board of a server whose first term has not begun. After so many operations the next term
-    /// begins.
-    pub fn shared(alloc: Global, longest: u64) -> Result<Shared, AllocError> {
+    /// The board of a server whose first term has not begun. After `longest` operations the next term
+    /// begins; `room` is how many bytes of requests may be open.
+    pub fn shared(alloc: Global, longest: u64, room: u64) -> Result<Shared, AllocError> {
         let counts = Counts::new(alloc)?;
         let places = Places::new(alloc)?;
+        let room = Room::new(alloc, room)?;
         let index = relay_progress::Counts::shared(alloc)?;
         Ok(Arc::new(
             alloc,
             Board {
                 ending: AtomicU64::new(0),
+                shut: AtomicU64::new(0),
                 turning: AtomicU64::new(0),
                 failed: AtomicU64::new(0),
                 waiting: AtomicU64::new(0),
                 served: AtomicU64::new(0),
                 places,
+                room,
+                open: AtomicU64::new(0),
+                refused: AtomicU64::new(0),
+                unsaved: AtomicU64::new(0),
                 epoch: AtomicU64::new(0),
                 terms: AtomicU64::new(0),
                 longest,
@@ -81,8 +104,10 @@ impl Board {
         )?)
     }
 
-    /// A term begins, in this epoch.
+    /// A term begins, in this epoch. All operations of the one before have ended, whether its workers heard
+    /// so or not.
     pub(crate) fn begin(&self, epoch: u32) {
+        self.open.store(0, Ordering::SeqCst);
         let ends = self.counts.ends();
         self.ended.store(ends.all(), Ordering::SeqCst);
         self.reported.store(ends.reports(), Ordering::SeqCst);
@@ -125,9 +150,40 @@ impl Board {
         self.ending.store(1, Ordering::SeqCst);
     }
 
-    /// Whether no further request is taken, and no connection is open.
+    /// Whether no further request is taken, and no connection is open or accepted any more.
     pub(crate) fn has_ended(&self) -> bool {
-        self.is_ending() && self.places.taken() == 0
+        let is_shut = self.shut.load(Ordering::SeqCst) > 0;
+        self.is_ending() && is_shut && self.places.taken() == 0
+    }
+
+    /// An operation was put.
+    pub(crate) fn add_open(&self) {
+        self.open.fetch_add(1, Ordering::SeqCst);
+    }
+
+    /// An operation that was put has ended.
+    pub(crate) fn take_open(&self) {
+        self.open.fetch_sub(1, Ordering::SeqCst);
+    }
+
+    /// How many operations were put and have not ended, as far as workers know.
+    pub(crate) fn open(&self) -> u64 {
+        self.open.load(Ordering::SeqCst)
+    }
+
+    /// How many connections were closed as soon as they were accepted, since too many were open.
+    pub(crate) fn refused(&self) -> u64 {
+        self.refused.load(Ordering::SeqCst)
+    }
+
+    /// Operations that were to be set aside were not.
+    pub(crate) fn add_unsaved(&self) {
+        self.unsaved.fetch_add(1, Ordering::SeqCst);
+    }
+
+    /// For how many requests operations that were to be set aside were not.
+    pub(crate) fn unsaved(&self) -> u64 {
+        self.unsaved.load(Ordering::SeqCst)
     }
 
     /// A lane has ended before its time, or a worker could not go on: the server ends.

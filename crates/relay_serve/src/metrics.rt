@@ -145,6 +145,45 @@ fn add_index(text: &mut Vec<u8>, board: &Board) -> Result<(), AllocError> {
     )
 }
 
+// What is known of requests that were not served, or not written down.
+fn add_requests(text: &mut Vec<u8>, board: &Board) -> Result<(), AllocError> {
+    add_single(
+        text,
+        "relay_connections_refused_total",
+        "counter",
+        "Connections that were closed as soon as they were accepted, since too many were open.",
+        board.refused(),
+    )?;
+    add_single(
+        text,
+        "relay_open_operations",
+        "gauge",
+        "Operations that were put and, as far as workers have heard, have not ended.",
+        board.open(),
+    )?;
+    add_single(
+        text,
+        "relay_open_bytes",
+        "gauge",
+        "Bytes of requests that were read and not yet answered, beyond the first 16384 of each.",
+        board.room.open(),
+    )?;
+    add_single(
+        text,
+        "relay_requests_refused_total",
+        "counter",
+        "Requests that were refused with 429, since there was no room for long enough.",
+        board.room.refused(),
+    )?;
+    add_single(
+        text,
+        "relay_report_failures_total",
+        "counter",
+        "Requests with operations that were to be added to the file of --report and were not.",
+        board.unsaved(),
+    )
+}
+
 /// The metrics. `AllocError`: allocation failed.
 pub(crate) fn metrics_text(alloc: Global, board: &Board) -> Result<Vec<u8>, AllocError> {
     let mut text = Vec::new(alloc);
@@ -167,6 +206,7 @@ pub(crate) fn metrics_text(alloc: Global, board: &Board) -> Result<Vec<u8>, Allo
         "relay_connections{state=\"served\"}",
         board.served(),
     )?;
+    add_requests(&mut text, board)?;
     add_single(
         &mut text,
         "relay_epoch",

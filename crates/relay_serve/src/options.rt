@@ -10,11 +10,51 @@ use relay_front::Face;
 use relay_http::is_host;
 use relay_lane::RelayConfig;
 
+/// What a server says on standard error while it works.
+#[derive(Clone, Copy, Debug, PartialEq, Eq)]
+pub enum ServeLog {
+    /// Nothing.
+    None,
+    /// What goes wrong with the index.
+    Errors,
+    /// That, and the start and the end.
+    Events,
+    /// That, and each request.
+    Requests,
+}
+
+impl ServeLog {
+    /// The log with this name on the command line. `None`: no log has it.
+    pub fn named(name: &str) -> Option<ServeLog> {
+        match name {
+            "none" => Some(ServeLog::None),
+            "errors" => Some(ServeLog::Errors),
+            "events" => Some(ServeLog::Events),
+            "requests" => Some(ServeLog::Requests),
+            _ => None,
+        }
+    }
+
+    pub(crate) fn has_requests(self) -> bool {
+        self == ServeLog::Requests
+    }
+}
+
+/// Where to listen.
+#[derive(Drop)]
+pub struct Listening {
+    /// The address, `HOST:PORT`.
+    pub address: String,
+    /// For how many milliseconds a request waits for room before it is refused with 429. `None`: without
+    /// end.
+    pub wait: Option<u64>,
+}
+
 /// The options of a server.
 #[derive(Drop)]
 pub struct ServeOptions {
-    /// Where to listen, `HOST:PORT`.
-    pub listen: String,
+    /// Where to listen.
+    pub listen: Vec<Listening>,
     /// The address of the index, `HOST:PORT`, 1 to 255 visible ASCII characters.
     pub to: String,
     /// The index of operations that do not name one, if neither does the path.
@@ -37,6 +77,12 @@ pub struct ServeOptions {
     pub idle: u64,
     /// After how many operations the next term begins.
     pub longest: u64,
+    /// How many bytes of requests may be open: read and not yet answered, beyond the first 16,384 of each.
+    pub room: u64,
+    /// The file to which operations that are reported are added, if they are.
+    pub report: Option<String>,
+    /// What is said on standard error while it works.
+    pub log: ServeLog,
 }
 
 impl ServeOptions {

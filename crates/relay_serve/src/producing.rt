@@ -4,8 +4,12 @@ ghost use Rattle.relay_producer.specs.Ends.{ClosesAll};
 ghost use Rattle.relay_run.specs.Identities.{identity_of, identity_of_closed};
 ghost use Rattle.relay_serve.specs.Settling.{Settles};
 
+use crate::clerk::Clerk;
 use crate::metrics::metrics_text;
 use crate::settler::Settler;
+use bytes::Bytes;
+use http::Request;
+use http_server::Response;
 use rand_pcg::Pcg64;
 use relay_action::{Action, DocKey, Text};
 use relay_clients::Signals;
@@ -15,7 +19,7 @@ use relay_receipts::ReceiptTake;
 use relay_telling::Ending;
 use std::alloc::{AllocError, Global};
 use std::sync::Wait;
-use std::time::Clock;
+use std::time::{Clock, Instant};
 use uuid::{ContextV7, Uuid};
 
 /// A settler in the hands of a thread that may wait.
@@ -23,6 +27,7 @@ use uuid::{ContextV7, Uuid};
 pub(crate) struct Producing<'a, R: Wait + Clock> {
     pub(crate) rt: &'a R,
     pub(crate) settler: Settler,
+    pub(crate) clerk: Clerk,
 }
 
 impl<'a, R: Wait + Clock> Settle for Producing<'a, R> {
@@ -47,6 +52,36 @@ impl<'a, R: Wait + Clock> Settle for Producing<'a, R> {
     fn metrics(&self, alloc: Global) -> Result<Vec<u8>, AllocError> {
         metrics_text(alloc, &self.settler.shared)
     }
+
+    fn stop(&self) -> bool {
+        if self.clerk.is_local {
+            self.settler.shared.end();
+        }
+        self.clerk.is_local
+    }
+
+    fn sets_aside(&self) -> bool {
+        self.clerk.report.is_some()
+    }
+
+    fn set_aside(&self, lines: Option<Vec<u8>>) {
+        if !self.clerk.save(lines) {
+            self.settler.shared.add_unsaved();
+            self.clerk.say_unsaved(self.rt);
+        }
+    }
+
+    fn begin(&self) -> Option<Instant> {
+        if self.clerk.log.has_requests() {
+            Instant::now(self.rt).ok()
+        } else {
+            None
+        }
+    }
+
+    fn note(&self, start: Option<Instant>, request: &Request<Bytes>, response: &Response) {
+        self.clerk.say_request(self.rt, start, request, response);
+    }
 }
 
 impl<'a, R: Wait + Clock> Producing<'a, R> {
@@ -59,7 +94,7 @@ impl<'a, R: Wait + Clock> Producing<'a, R> {
             ≡ identity_of self.entry.settler.producer.producer }
         ensures receipts { result.1 ≡ self.entry.settler.producer.receipts }
     {
-        let Producing { rt, settler } = self;
+        let Producing { rt, settler, .. } = self;
         settler.close(rt)
     }
 }

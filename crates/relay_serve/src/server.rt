@@ -4,43 +4,48 @@ ghost use Rattle.relay_core.specs.Limits.{is_valid};
 ghost use Rattle.relay_http.specs.WrittenRequest.{is_host};
 ghost use Rattle.relay_serve.specs.Configs.{config_in};
 
-use crate::accepting::{accept_all, await_input, wake};
 use crate::board::{Board, Shared, share};
 use crate::epochs::Epochs;
-use crate::options::ServeOptions;
+use crate::input::await_input;
+use crate::options::{Listening, ServeOptions};
+use crate::report_file::open_report;
 use crate::saying::{say, say_line};
 use crate::stopped::Stopped;
 use crate::terms::{Broken, Terms, serve_terms};
 use crate::totals::counts_text;
+use crate::watching::{start_watch, stop_watch};
 use crate::workers::Connections;
 use relay_action::ByteOut;
-use relay_clients::{Parking, Poller};
+use relay_clients::{Entrance, Poller, PollerParts};
 use relay_threads::{FinishFaultKind, StartFault};
 use relay_words::{Exit, add_number};
 use std::alloc::{AllocError, Global};
+use std::fs::File;
 use std::hash::RandomState;
-use std::net::{OpenListener, TcpListener};
+use std::net::TcpListener;
 use std::sync::Wait;
 use std::thread;
 use std::thread::{JoinHandle, Threads};
 use std::time::Clock;
 
-// Says where it listens, and in which epoch it works.
+// Says where it listens, and in which epoch it works: a line for each entrance.
 fn say_begun<E: ByteOut>(
     alloc: Global,
-    listener: &TcpListener,
+    entrances: &[Entrance],
     epoch: u32,
     err: &mut E,
 ) -> Result<(), AllocError> {
-    let mut text = Vec::new(alloc);
-    text.extend_from_slice(b"listening on ")?;
-    if let Ok(address) = listener.local_addr() {
-        text.extend_from_slice(address.to_string(alloc)?.as_bytes())?;
+    for entrance in entrances {
+        let mut text = Vec::new(alloc);
+        text.extend_from_slice(b"listening on ")?;
+        if let Some(address) = entrance.address() {
+            text.extend_from_slice(address.to_string(alloc)?.as_bytes())?;
+        }
+        text.extend_from_slice(b", epoch ")?;
+        add_number(&mut text, u64::from(epoch))?;
+        text.push(b'\n')?;
+        say(err, text.as_slice());
     }
-    text.extend_from_slice(b", epoch ")?;
-    add_number(&mut text, u64::from(epoch))?;
-    text.push(b'\n')?;
-    say(err, text.as_slice());
     Ok(())
 }
 
@@ -89,23 +94,6 @@ where
     thread::spawn(&rt, move || await_input(&rt, input, &shared)).is_ok()
 }
 
-fn spawn_acceptor<R>(
-    rt: R,
-    alloc: Global,
-    keys: RandomState,
-    listener: TcpListener,
-    parking: Parking,
-    shared: Shared,
-) -> Option<JoinHandle<()>>
-where
-    R: Threads + Wait + Clock + Copy + Send + 'static,
-{
-    thread::spawn(&rt, move || {
-        accept_all(&rt, alloc, keys, &listener, &parking, &shared)
-    })
-    .ok()
-}
-
 fn spawn_poller<R>(rt: R, poller: Poller, shared: Shared, idle: u64) -> Option<JoinHandle<()>>
 where
     R: Threads + Wait + Clock + Copy + Send + 'static,
@@ -136,12 +124,51 @@ fn finish<O: ByteOut, E: ByteOut>(
     }
 }
 
-// Serves at this listener, in this epoch first.
-fn serve_at<R, O, E>(
+// What is prepared before the first term: the connections, and the poller that gets them.
+struct Prepared {
+    poller: Poller,
+    connections: Connections,
+    shared: Shared,
+}
+
+// Prepares what the first term needs.
+fn prepare(
+    host: &HostRuntime,
+    alloc: Global,
+    options: &ServeOptions,
+    entrances: Vec<Entrance>,
+    report: Option<File>,
+) -> Result<Prepared, Stopped> {
+    let shared = Board::shared(alloc, options.longest, options.room)?;
+    let Ok(keys) = RandomState::new(host) else {
+        return Err(Stopped::Random);
+    };
+    let parts = PollerParts {
+        entrances,
+        keys,
+        places: shared.places.share()?,
+        room: shared.room.share()?,
+    };
+    match Poller::new(host, alloc, parts) {
+        Ok((poller, parking, next)) => Ok(Prepared {
+            poller,
+            connections: Connections {
+                parking,
+                next,
+                report,
+            },
+            shared,
+        }),
+        Err(_) => Err(Stopped::Start(StartFault::Thread)),
+    }
+}
+
+// Serves what comes to the poller, in this epoch first.
+fn serve_prepared<R, O, E>(
     rt: R,
     host: &HostRuntime,
     options: &ServeOptions,
-    listener: TcpListener,
+    prepared: Prepared,
     first: u32,
     epochs: &mut Epochs,
     out: &mut O,
@@ -156,28 +183,18 @@ where
     requires floor { epochs.old.floor ≡ first + 1 }
 {
     let alloc = host.alloc();
-    let shared = Board::shared(alloc, options.longest)?;
-    let Ok((poller, parking, next)) = Poller::new(host, alloc) else {
+    let Prepared {
+        poller,
+        connections,
+        shared,
+    } = prepared;
+    let (board, ended) = (share(&shared)?, share(&shared)?);
+    let watch = start_watch(rt, host, alloc, options, first, &shared)?;
+    let Some(polling) = spawn_poller(rt, poller, board, options.idle) else {
+        stop_watch(&rt, watch);
         return Ok(say_stopped(Stopped::Start(StartFault::Thread), err));
     };
-    let arrived = parking.share()?;
-    let connections = Connections { parking, next };
-    let Ok(keys) = RandomState::new(host) else {
-        return Ok(say_stopped(Stopped::Random, err));
-    };
-    say_begun(alloc, &listener, first, err)?;
-    let local = listener.local_addr().ok();
-    let board = share(&shared)?;
-    let Some(polling) = spawn_poller(rt, poller, share(&shared)?, options.idle) else {
-        return Ok(say_stopped(Stopped::Start(StartFault::Thread), err));
-    };
-    let Some(accepting) = spawn_acceptor(rt, alloc, keys, listener, arrived, board) else {
-        shared.end();
-        drop(connections);
-        polling.join(&rt);
-        return Ok(say_stopped(Stopped::Start(StartFault::Thread), err));
-    };
-    if !spawn_input(rt, host, share(&shared)?) {
+    if !spawn_input(rt, host, ended) {
         shared.fail();
     }
     let (terms, broken) = serve_terms(
@@ -192,15 +209,85 @@ where
         err,
     );
     shared.end();
-    wake(host, local, options.listen.as_str());
-    accepting.join(&rt);
     drop(connections);
     polling.join(&rt);
+    stop_watch(&rt, watch);
     finish(alloc, terms, broken, shared.has_failed(), out, err)
 }
 
-/// Serves until the end of standard input, or until a lane has failed. It says on `err` where it
-/// listens and in which epoch it works, and at the end the counts of all lanes and terms on `out`.
+// Serves at these entrances, in this epoch first.
+fn serve_at<R, O, E>(
+    rt: R,
+    host: &HostRuntime,
+    options: &ServeOptions,
+    entrances: Vec<Entrance>,
+    report: Option<File>,
+    first: u32,
+    epochs: &mut Epochs,
+    out: &mut O,
+    err: &mut E,
+) -> Result<Exit, AllocError>
+where
+    R: Threads + Wait + Clock + Copy + Send + 'static,
+    O: ByteOut,
+    E: ByteOut,
+    requires valid { is_valid (config_in 0 options.now.config) ≡ true }
+    requires host { IsTrue (is_host (string_bytes options.now.to)) }
+    requires floor { epochs.old.floor ≡ first + 1 }
+{
+    say_begun(host.alloc(), &entrances, first, err)?;
+    match prepare(host, host.alloc(), options, entrances, report) {
+        Ok(prepared) => serve_prepared(rt, host, options, prepared, first, epochs, out, err),
+        Err(stopped) => Ok(say_stopped(stopped, err)),
+    }
+}
+
+// An entrance at each of these addresses. If one cannot be listened at, says so.
+fn enter<E: ByteOut>(
+    host: &HostRuntime,
+    alloc: Global,
+    listen: &[Listening],
+    err: &mut E,
+) -> Result<Vec<Entrance>, Exit> {
+    let mut entrances = Vec::new(alloc);
+    for listening in listen {
+        let bound = TcpListener::bind(host, listening.address.as_str()).ok();
+        let entrance = bound.and_then(|listener| Entrance::new(listener, listening.wait));
+        let Some(entrance) = entrance else {
+            say_line(err, "listen failed");
+            return Err(Exit::Device);
+        };
+        if entrances.push(entrance).is_err() {
+            return Err(say_stopped(Stopped::Memory, err));
+        }
+    }
+    Ok(entrances)
+}
+
+// The file in which operations are set aside, if they are. If it cannot be opened, says why.
+fn report_of<E: ByteOut>(
+    host: &HostRuntime,
+    alloc: Global,
+    path: &Option<String>,
+    err: &mut E,
+) -> Result<Option<File>, Exit> {
+    let Some(path) = path else {
+        return Ok(None);
+    };
+    match open_report(host, alloc, path.as_str()) {
+        Ok(file) => Ok(Some(file)),
+        Err(fault) => {
+            say(err, path.as_bytes());
+            say(err, b": ");
+            say_line(err, fault.text());
+            Err(fault.exit())
+        }
+    }
+}
+
+/// Serves until the end of standard input or until a client on this machine has it stop, or until a lane
+/// has failed. It says on `err` where it listens and in which epoch it works, and at the end the counts of
+/// all lanes and terms on `out`.
 pub fn serve<R, O, E>(
     rt: R,
     host: HostRuntime,
@@ -215,20 +302,33 @@ where
     requires valid { is_valid (config_in 0 options.now.config) ≡ true }
     requires host { IsTrue (is_host (string_bytes options.now.to)) }
 {
-    let Ok(listener) = TcpListener::bind(&host, options.listen.as_str()) else {
-        say_line(err, "listen failed");
-        return Exit::Device;
+    let alloc = host.alloc();
+    let entrances = match enter(&host, alloc, &options.listen, err) {
+        Ok(entrances) => entrances,
+        Err(exit) => return exit,
+    };
+    let report = match report_of(&host, alloc, &options.report, err) {
+        Ok(report) => report,
+        Err(exit) => return exit,
     };
     let mut epochs = Epochs::new();
-    let first = match epochs.next(&host, host.alloc(), options, err) {
+    let first = match epochs.next(&host, alloc, options, err) {
         Ok(epoch) => epoch,
         Err(exit) => return exit,
     };
-    match serve_at(rt, &host, options, listener, first, &mut epochs, out, err) {
+    let served = serve_at(
+        rt,
+        &host,
+        options,
+        entrances,
+        report,
+        first,
+        &mut epochs,
+        out,
+        err,
+    );
+    match served {
         Ok(exit) => exit,
-        Err(_) => {
-            say_line(err, "out of memory");
-            Exit::Memory
-        }
+        Err(_) => say_stopped(Stopped::Memory, err),
     }
 }

@@ -49,6 +49,7 @@ fn note(shared: &Shared, batch: &mut Batch, notice: Notice<Ending>)
     match told {
         Some(ending) => {
             let (number, end) = end_of(ending);
+            shared.take_open();
             batch.note(number, end);
         }
         None => {
@@ -136,7 +137,10 @@ impl Settler {
         let mut action = action;
         'tries: for _ in rt.forever() {
             let fault = match self.try_put(rt, key, action) {
-                Ok(receipt) => return Put::Done(receipt),
+                Ok(receipt) => {
+                    self.shared.add_open();
+                    return Put::Done(receipt);
+                }
                 Err(fault) => fault,
             };
             let WindowFault {

@@ -5,6 +5,7 @@ ghost use Rattle.relay_serve.specs.Answering.{GoesOn, HasServed};
 ghost use Rattle.relay_serve.specs.Workers.{given_as};
 
 use crate::board::Shared;
+use crate::clerk::Clerk;
 use crate::producing::{Making, MakingIds, Producing, WorkerFront};
 use crate::settler::Settler;
 use crossbeam_channel::{Receiver, RecvTimeoutError};
@@ -32,6 +33,7 @@ pub(crate) struct Worker {
     pub(crate) settings: Settings,
     pub(crate) settler: Settler,
     pub(crate) making: Making,
+    pub(crate) clerk: Clerk,
     pub(crate) shared: Shared,
 }
 
@@ -71,6 +73,7 @@ fn serve_next<R: Wait + Clock>(
         Ok(mut client) => {
             shared.take_waiting();
             shared.add_served();
+            front.relay.clerk.meet(&client);
             let turn = serve_turn(rt, &mut client, front, shared, idle);
             shared.take_served();
             parking.pass_on(rt, &**shared, turn, client);
@@ -121,6 +124,7 @@ impl Worker {
             settings,
             settler,
             making,
+            clerk,
             shared,
         } = self;
         let Settings { face, index, idle } = settings;
@@ -128,7 +132,7 @@ impl Worker {
             alloc: settler.alloc,
             face,
             index: index.as_deref(),
-            relay: Producing { rt, settler },
+            relay: Producing { rt, settler, clerk },
             ids: MakingIds { rt, making },
         };
         serve_all(rt, connections, parking, &mut front, &shared, idle);

@@ -5,6 +5,7 @@ ghost use Rattle.relay_serve.specs.Answering.{HaveServed, given_by, index_in};
 ghost use Rattle.relay_serve.specs.Workers.{AreUnused, given_as, given_to, producer_in, receipts_in};
 
 use crate::board::{Shared, share};
+use crate::clerk::Clerk;
 use crate::options::ServeOptions;
 use crate::producing::Making;
 use crate::settler::Settler;
@@ -19,6 +20,7 @@ use relay_run::ticking::tick_until_ended;
 use relay_telling::Ending;
 use relay_threads::StartFault;
 use std::alloc::{AllocError, Global};
+use std::fs::File;
 use std::random::RandomSource;
 use std::snapshot::Snapshot;
 use std::sync::Wait;
@@ -52,11 +54,13 @@ pub(crate) type WorkerThread = PromisedHandle<(ClosedProducer, ReceiptTake<Endin
 /// receipts; and the control.
 type Ended = (Vec<ClosedProducer>, Vec<ReceiptTake<Ending>>, ClosedControl);
 
-/// Where workers get connections, and where these go that wait for their clients.
+/// Where workers get connections, where these go that wait for their clients, and where operations that
+/// are reported are set aside, if they are.
 #[derive(Drop)]
 pub(crate) struct Connections {
     pub(crate) parking: Parking,
     pub(crate) next: Receiver<Client, Global>,
+    pub(crate) report: Option<File>,
 }
 
 /// Each producer with its end of the channel of its receipts, and a window.
@@ -101,6 +105,30 @@ fn seed(host: &HostRuntime) -> Option<Pcg64> {
     Some(Pcg64::new(u128::from_le_bytes(state), u128::from_le_bytes(stream)))
 }
 
+// What a worker writes down, with a handle of its own of the file of the report.
+fn make_clerk(
+    host: &HostRuntime,
+    alloc: Global,
+    options: &ServeOptions,
+    report: &Option<File>,
+) -> Result<Clerk, Stopped> {
+    let report = match report {
+        Some(file) => match file.try_clone() {
+            Ok(file) => Some(file),
+            Err(_) => return Err(Stopped::Start(StartFault::Thread)),
+        },
+        None => None,
+    };
+    Ok(Clerk {
+        host: *host,
+        alloc,
+        log: options.log,
+        report,
+        peer: None,
+        is_local: false,
+    })
+}
+
 // What a worker with this producer is given.
 fn make_worker(
     host: &HostRuntime,
@@ -108,6 +136,7 @@ fn make_worker(
     options: &ServeOptions,
     producer: WindowedProducer<Ending>,
     shared: &Shared,
+    report: &Option<File>,
 ) -> Result<Worker, Stopped>
     ensures { IfOk result (λ w. given_as w.settings w.settler.producer
         ≡ given_by options.now.face (index_in options.now.index) producer) }
@@ -116,6 +145,7 @@ fn make_worker(
         return Err(Stopped::Random);
     };
     let index = own(alloc, &options.index)?;
+    let clerk = make_clerk(host, alloc, options, report)?;
     let board = share(shared)?;
     let other = share(shared)?;
     Ok(Worker {
@@ -135,6 +165,7 @@ fn make_worker(
             ids: ContextV7::new(),
             dice,
         },
+        clerk,
         shared: other,
     })
 }
@@ -181,7 +212,7 @@ where
     let next = connections.next.clone()?;
     let parking = connections.parking.share()?;
     let ended = ended.clone()?;
-    let worker = make_worker(host, alloc, options, producer, shared)?;
+    let worker = make_worker(host, alloc, options, producer, shared, &connections.report)?;
     match spawn_worker(rt, worker, next, parking, ended) {
         Ok(thread) => Ok(thread),
         Err(_) => Err(Stopped::Start(StartFault::Thread)),

@@ -7,7 +7,7 @@ use crate::options::{
 use crate::report::{out_of_memory, usage};
 use crate::subcommand::run::address_fault;
 use clap::builder::ValueParser;
-use clap::{Arg, ArgMatches, Command};
+use clap::{Arg, ArgAction, ArgMatches, Command};
 use relay_action::StdStream;
 use relay_batch::Limits;
 use relay_core::config::{
@@ -16,9 +16,9 @@ use relay_core::config::{
 };
 use relay_front::Face;
 use relay_lane::RelayConfig;
-use relay_serve::{EpochSource, ServeOptions, serve};
+use relay_serve::{EpochSource, Listening, ServeLog, ServeOptions, serve};
 use relay_target::read_address;
-use relay_words::Exit;
+use relay_words::{Exit, duration_of};
 use std::alloc::{AllocError, Global};
 use std::io;
 use std::sync::Wait;
@@ -31,7 +31,7 @@ const ABOUT: &str =
 const LONG_ABOUT: &str =
     "Takes the writes of OpenSearch's clients, and writes each to an index once and in order.
 
-It listens at ADDR and answers requests of the bulk API and for single documents as an index does, over HTTP/1.1
+It listens at ADDR, or at several, and answers requests of the bulk API and for single documents as an index does, over HTTP/1.1
 without TLS. Each operation goes to the lane of its document, is assigned a version, and is sent in the lane's
 next bulk request to the index. A request is answered once each of its operations has ended, item by item. An
 item that says that an operation was written means that the index applied it. Nothing is stored on disk: a client that got
@@ -60,19 +60,38 @@ It works in terms: after --turn-after operations, or 100,000 that were refused f
 begins the next term in the next epoch, from the same source; connections stay, and wait for that moment. So neither
 versions nor memory run out.
 
-The end of standard input stops it: it takes nothing more, answers what it has, and ends. Standard error gets
-`listening on ADDR, epoch N` at the start, and standard output the counts at the end:
+The bytes of requests that were read and not yet answered, beyond the first 16 KiB of each, are at most --max-open-bytes, and one
+more request. What does not fit waits, for as long as ,wait=DURATION behind its listener's ADDR says, and is then refused with 429.
+
+The end of standard input stops it, and so does `POST /_relay/stop` to a loopback address: it takes nothing more, answers
+what it has, and ends. Standard error gets `listening on ADDR, epoch N` at the start for each ADDR, and what --log says, and standard
+output the counts at the end:
 
     applied A already B reported C
 
-The exit status is 0 after the end of standard input, 1 if the command line is invalid, 2 if the file of
---epoch-file holds no epoch, 3 if it cannot listen, has no epoch, or a lane's thread failed, and 4 if memory
-ran out.";
+--report adds each operation that the index refused, or that was given up, to a file, as lines of a bulk request, so that it can
+be submitted again as it is. What was answered with relay_timeout is not in it.
+
+The exit status is 0 after such a stop, 1 if the command line is invalid, 2 if the file of --epoch-file holds
+no epoch or that of --report something else than operations, 3 if it cannot listen, open a file or get an epoch, or a lane's
+thread failed, and 4 if memory ran out.";
 
 const LISTEN: TextOption = TextOption {
     name: "listen",
-    value: "ADDR",
-    help: "Where to listen, HOST:PORT: an address or a name of this machine, and a port",
+    value: "ADDR[,wait=DURATION|never]",
+    help: "Where to listen, HOST:PORT: an address or a name of this machine, and a port; may be given several times. With wait, a request waits so long for room before it is refused with 429, up to 168h [default: --answer-within]",
+};
+
+const REPORT: TextOption = TextOption {
+    name: "report",
+    value: "FILE",
+    help: "Add each operation that the index refused, or that was given up, to this file",
+};
+
+const LOG: TextOption = TextOption {
+    name: "log",
+    value: "WHAT",
+    help: "Say on standard error what goes wrong with the index: `errors`; that and the start and the end: `events`; that and each request: `requests`; or `none`",
 };
 
 const INDEX: TextOption = TextOption {
@@ -154,8 +173,16 @@ const TURN_AFTER: NumberOption = NumberOption {
     help: "Begin the next term, in the next epoch, after so many operations, 1 to 549755813888",
 };
 
+const MAX_OPEN: NumberOption = NumberOption {
+    name: "max-open-bytes",
+    least: 1 << 20,
+    most: 1 << 40,
+    default: "268435456",
+    help: "Maximum size of all requests that were read and not yet answered, in bytes, 1048576 to 1099511627776; one request more may be read",
+};
+
 // The numeric options, in the order of the help.
-const NUMBERS: &[NumberOption] = &[WORKERS, LANES, COUNT, BYTES, TURN_AFTER];
+const NUMBERS: &[NumberOption] = &[WORKERS, LANES, COUNT, BYTES, TURN_AFTER, MAX_OPEN];
 
 const TIMEOUT: DurationOption = DurationOption {
     name: "timeout",
@@ -212,10 +239,15 @@ fn attempts_arg<'a>(alloc: Global) -> Result<Arg<'a>, AllocError> {
         .conflicts_with(GIVE_UP_AFTER.name)
 }
 
+// The option for where to listen.
+fn listen_arg<'a>(alloc: Global) -> Arg<'a> {
+    LISTEN.arg(alloc).action(ArgAction::Append).required(true)
+}
+
 /// Its help and its options.
 pub fn command<'a>(alloc: Global, name: &'static str) -> Result<Command<'a>, AllocError> {
     CommandBuilder::new(alloc, name, ABOUT, LONG_ABOUT)
-        .required_text(&LISTEN)
+        .arg(listen_arg(alloc))
         .required_text(&TO)
         .text(&INDEX)
         .arg(FACE.arg(alloc).default_value("compatible"))
@@ -226,6 +258,8 @@ pub fn command<'a>(alloc: Global, name: &'static str) -> Result<Command<'a>, All
         .durations(DURATIONS)
         .arg(GIVE_UP_AFTER.arg(alloc).default_value(GIVE_UP))
         .try_arg(attempts_arg(alloc))
+        .text(&REPORT)
+        .arg(LOG.arg(alloc).default_value("errors"))
         .build()
 }
 
@@ -249,6 +283,11 @@ fn durations_of<R: Eprint>(rt: &R, matches: &ArgMatches<'_>) -> Result<Durations
 
 const NO_EPOCH: &str =
     "error: one of --epoch-from INDEX/ID, --epoch-file PATH and --epoch N is needed";
+
+const NO_WAIT: &str =
+    "error: --listen ADDR may end in `,wait=DURATION`, 0s to 168h, or `,wait=never`, and in nothing else";
+
+const NO_LOG: &str = "error: --log WHAT has to be `none`, `errors`, `events` or `requests`";
 
 const NO_FACE: &str = "error: --face FACE has to be `compatible` or `opensearch`";
 
@@ -321,6 +360,7 @@ struct Given<'a> {
     to: &'a str,
     durations: Durations,
     face: Face,
+    log: ServeLog,
     retries: Retries,
 }
 
@@ -334,10 +374,14 @@ fn given_by<'a, R: Eprint>(rt: &R, matches: &'a ArgMatches<'_>) -> Result<Given<
     let Some(face) = Face::named(FACE.get(matches).unwrap_or("")) else {
         return Err(usage(rt, NO_FACE));
     };
+    let Some(log) = ServeLog::named(LOG.get(matches).unwrap_or("")) else {
+        return Err(usage(rt, NO_LOG));
+    };
     Ok(Given {
         to,
         durations,
         face,
+        log,
         retries: retries_of(rt, matches)?,
     })
 }
@@ -349,10 +393,64 @@ fn set_texts(
     to: &str,
     options: &mut ServeOptions,
 ) -> Result<(), AllocError> {
-    options.listen = String::from_str(alloc, LISTEN.get(matches).unwrap_or(""))?;
     options.to = String::from_str(alloc, to)?;
     options.index = INDEX.own(alloc, matches)?;
+    options.report = REPORT.own(alloc, matches)?;
     Ok(())
+}
+
+// The longest time that a request may wait for room, in milliseconds.
+const WAIT_LIMIT: u64 = 604_800_000;
+
+// For how many milliseconds a request waits, as the word behind an address says. `None`: the word says
+// nothing of the kind.
+fn wait_of(word: &str) -> Option<Option<u64>> {
+    let time = word.strip_prefix("wait=")?;
+    if time == "never" {
+        return Some(None);
+    }
+    match duration_of(time, 1) {
+        Some(wait) if wait <= WAIT_LIMIT => Some(Some(wait)),
+        _ => None,
+    }
+}
+
+// Where to listen, as a value of the option says.
+fn listening_of<R: Eprint + AllocGlobal>(
+    rt: &R,
+    value: &str,
+    within: u64,
+) -> Result<Listening, Exit> {
+    let (address, wait) = match value.split_once(',') {
+        Some((address, word)) => (address, wait_of(word)),
+        None => (value, Some(Some(within))),
+    };
+    let Some(wait) = wait else {
+        return Err(usage(rt, NO_WAIT));
+    };
+    match String::from_str(rt.alloc(), address) {
+        Ok(address) => Ok(Listening { address, wait }),
+        Err(_) => Err(out_of_memory(rt)),
+    }
+}
+
+// Where to listen. Without a word of its own, a request waits for as long as one may take.
+fn listen_at<R: Eprint + AllocGlobal>(
+    rt: &R,
+    matches: &ArgMatches<'_>,
+    within: u64,
+) -> Result<Vec<Listening>, Exit> {
+    let mut listen = Vec::new(rt.alloc());
+    let Some(values) = matches.get_strs(LISTEN.name) else {
+        return Ok(listen);
+    };
+    for value in values {
+        let listening = listening_of(rt, value, within)?;
+        if listen.push(listening).is_err() {
+            return Err(out_of_memory(rt));
+        }
+    }
+    Ok(listen)
 }
 
 // The options as they were given, without those that are texts.
@@ -363,7 +461,7 @@ fn options_of(
     epoch: EpochSource,
 ) -> ServeOptions {
     ServeOptions {
-        listen: String::new(alloc),
+        listen: Vec::new(alloc),
         to: String::new(alloc),
         index: None,
         face: given.face,
@@ -374,6 +472,9 @@ fn options_of(
         within: u64::from(given.durations.within),
         idle: u64::from(given.durations.idle),
         longest: TURN_AFTER.get(matches),
+        room: MAX_OPEN.get(matches),
+        report: None,
+        log: given.log,
     }
 }
 
@@ -409,6 +510,10 @@ where
     R: Print + Eprint + AllocGlobal + Threads + Wait + Clock + Copy + Send + 'static,
 {
     let mut options = options_of(rt.alloc(), matches, given, epoch);
+    match listen_at(rt, matches, options.within) {
+        Ok(listen) => options.listen = listen,
+        Err(exit) => return exit,
+    }
     match set_texts(rt.alloc(), matches, given.to, &mut options) {
         Ok(()) => serve_by(rt, host, &options),
         Err(_) => out_of_memory(rt),
