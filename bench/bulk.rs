@@ -6,6 +6,9 @@
 // COUNT requests of one write, one after another, and prints the median of the times until the reply has come. `bulk clients
 // PORT CLIENTS SECONDS` does so from CLIENTS connections for SECONDS, with a PUT of a document for each write, and prints how
 // many writes there were, and of those that count how many a second, and the median and the 99th percentile of their times.
+// `bulk soak PORT CLIENTS REQUESTS` sends REQUESTS of 500 operations from each of CLIENTS connections, each with ids that no
+// other has; of each request the index refuses 5 operations, those whose ids begin with `refused`. Each client opens its
+// connection again from time to time. It prints how many operations were written, and how many refused.
 use std::fs::File;
 use std::io::{self, BufRead, BufReader, Write};
 use std::net::{TcpListener, TcpStream};
@@ -21,6 +24,12 @@ static ANSWERED: AtomicU64 = AtomicU64::new(0);
 const PATIENCE: Duration = Duration::from_secs(60);
 // For how long `clients` writes before its writes count.
 const WARMING: Duration = Duration::from_millis(300);
+// What the id of an operation begins with that the index refuses.
+const REFUSED: &[u8] = b"refused";
+// How many operations a request of `soak` has, how many of them are refused, and after how many requests a client connects again.
+const SOAKING: usize = 500;
+const SOAKING_REFUSED: usize = 5;
+const SOAKING_REOPENS: usize = 50;
 
 // The length of the body, if this line of a head states it.
 fn length_of(line: &[u8]) -> Option<usize> {
@@ -70,10 +79,18 @@ fn append_item(reply: &mut Vec<u8>, kind: &str, id: &[u8], result: &str, status:
     }
 }
 
-// Writes the reply of an index that has applied every operation of a body, and returns how many there are.
+fn append_refusal(reply: &mut Vec<u8>, id: &[u8]) {
+    for part in [b"{\"index\":{\"_index\":\"books\",\"_type\":\"_doc\",\"_id\":\"", id, b"\",\"status\":400,\"error\":{\"type\":\"mapper_parsing_exception\",\"reason\":\"failed to parse field [year] of type [long]\"}}},"] {
+        reply.extend_from_slice(part);
+    }
+}
+
+// Writes the reply of an index that has applied every operation of a body but those that it refuses, and returns how many there are.
 fn answer(mut body: &[u8], line: &mut Vec<u8>, reply: &mut Vec<u8>) -> io::Result<u64> {
     reply.clear();
-    reply.extend_from_slice(b"{\"took\":1,\"errors\":false,\"items\":[");
+    reply.extend_from_slice(b"{\"took\":1,\"errors\":");
+    let errors = reply.len();
+    reply.extend_from_slice(b"false,\"items\":[");
     let mut count = 0;
     loop {
         line.clear();
@@ -84,7 +101,12 @@ fn answer(mut body: &[u8], line: &mut Vec<u8>, reply: &mut Vec<u8>) -> io::Resul
         if line.starts_with(b"{\"delete\"") {
             append_item(reply, "delete", id, "deleted", "200");
         } else {
-            append_item(reply, "index", id, "created", "201");
+            if id.starts_with(REFUSED) {
+                append_refusal(reply, id);
+                reply[errors..errors + 5].copy_from_slice(b" true");
+            } else {
+                append_item(reply, "index", id, "created", "201");
+            }
             line.clear();
             body.read_until(b'\n', line)?;
         }
@@ -330,6 +352,53 @@ fn clients(port: &str, count: usize, time: Duration) -> io::Result<()> {
     Ok(())
 }
 
+// How often a text stands in a message.
+fn occurrences(text: &[u8], message: &[u8]) -> usize {
+    message.windows(text.len()).filter(|it| *it == text).count()
+}
+
+// Sends so many requests, each once the reply to the one before has come. Returns how many operations were written, and how many
+// refused.
+fn soak_client(port: &str, client: usize, requests: usize) -> io::Result<(usize, usize)> {
+    let mut connection = Connection::open(port)?;
+    let (mut written, mut refused) = (0, 0);
+    for turn in 0..requests {
+        if turn % SOAKING_REOPENS == SOAKING_REOPENS - 1 {
+            connection = Connection::open(port)?;
+        }
+        let mut body = Vec::new();
+        for at in 0..SOAKING {
+            let start = if at < SOAKING_REFUSED { "refused-" } else { "" };
+            write!(body, "{{\"index\":{{\"_index\":\"books\",\"_id\":\"{start}{client}-{turn}-{at}\"}}}}\n{{\"title\":\"{at:080}\"}}\n")?;
+        }
+        let mut request = format!("POST /_bulk HTTP/1.1\r\nHost: 127.0.0.1\r\nContent-Type: application/x-ndjson\r\nContent-Length: {}\r\n\r\n", body.len()).into_bytes();
+        request.extend_from_slice(&body);
+        let head = connection.ask(&request)?;
+        let text = &connection.reply[head..];
+        written += occurrences(b"\"status\":201", text);
+        refused += occurrences(b"\"status\":400", text);
+        assert!(written + refused == (turn + 1) * SOAKING, "{}", String::from_utf8_lossy(text));
+    }
+    Ok((written, refused))
+}
+
+fn soak(port: &str, clients: usize, requests: usize) -> io::Result<()> {
+    let threads: Vec<_> = (0..clients)
+        .map(|client| {
+            let port = port.to_string();
+            thread::spawn(move || soak_client(&port, client, requests))
+        })
+        .collect();
+    let (mut written, mut refused) = (0, 0);
+    for thread in threads {
+        let (own, its) = thread.join().expect("a thread that ended")?;
+        written += own;
+        refused += its;
+    }
+    println!("{written} written, {refused} refused");
+    Ok(())
+}
+
 fn main() -> io::Result<()> {
     let words: Vec<String> = std::env::args().skip(1).collect();
     match words.split_first().map(|(command, rest)| (command.as_str(), rest)) {
@@ -347,6 +416,7 @@ fn main() -> io::Result<()> {
             let time = Duration::from_secs_f64(seconds.parse().expect("seconds"));
             clients(port, count.parse().expect("a number"), time)
         }
-        _ => panic!("usage: bulk serve NANOSECONDS [MOST [MICROSECONDS [THREADS]]], bulk ready PORT FILE.., bulk single PORT COUNT, bulk clients PORT CLIENTS SECONDS"),
+        Some(("soak", [port, clients, requests])) => soak(port, clients.parse().expect("a number"), requests.parse().expect("a number")),
+        _ => panic!("usage: bulk serve NANOSECONDS [MOST [MICROSECONDS [THREADS]]], bulk ready PORT FILE.., bulk single PORT COUNT, bulk clients PORT CLIENTS SECONDS, bulk soak PORT CLIENTS REQUESTS"),
     }
 }

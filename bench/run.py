@@ -1,7 +1,7 @@
 """Compares the project's programs with others, all in one run. Only the ratios count.
 
-`python3 bench/run.py [PART..]` measures the named parts, or all of them: lines, pick, apply, queue, tell, replies, lane,
-http, world, run, serve, latency. `--operations N` sets the number of operations of `run`, 50,000 by default.
+`python3 bench/run.py [PART..]` measures the named parts, or all of them but the last: lines, pick, apply, queue, tell, replies, lane,
+http, world, run, serve, latency, soak. `--operations N` sets the number of operations of `run`, 50,000 by default.
 """
 import argparse
 import os
@@ -18,6 +18,7 @@ import queue_bench
 import replies_bench
 import run_bench
 import serve_bench
+import soak_bench
 import tell_bench
 import world_bench
 
@@ -39,7 +40,10 @@ PARTS = [
     ("run", RELAY, "`make build`", run_bench.measure),
     ("serve", RELAY, "`make build`", serve_bench.measure),
     ("latency", RELAY, "`make build`", latency.measure),
+    ("soak", RELAY, "`make build`", soak_bench.measure),
 ]
+# What is measured only if it is named.
+NAMED = ("soak",)
 
 
 def main():
@@ -52,7 +56,7 @@ def main():
     if unknown:
         sys.exit("no part %s" % " ".join(unknown))
     for name, program, command, measure in PARTS:
-        if name not in (words.parts or names):
+        if name not in (words.parts or [it for it in names if it not in NAMED]):
             continue
         if not os.path.exists(program):
             sys.exit("no program for %s: run %s first" % (name, command))

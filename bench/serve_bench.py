@@ -1,7 +1,9 @@
 """Measures `relay serve` in front of a plain Rust server that answers every bulk request with success: the same clients and requests,
-to it, directly to that server, and to a relay in plain Rust whose lanes only hand requests on: what any relay with lanes takes."""
+to it, directly to that server, and to a relay in plain Rust whose lanes only hand requests on: what any relay with lanes takes. Then many
+clients that write single documents, to an index that runs few requests at a time; and a thousand idle connections beside others."""
 import contextlib
 import re
+import resource
 import socket
 import subprocess
 import sys
@@ -17,6 +19,16 @@ SIZES = (100, 1000)
 SINGLES = ((0, 3.0), (1000, 1.2))
 # The goal: the minimum ratio of the operations per second of requests of 500 to those of direct ones, with the slower server.
 RATE_GOAL = 0.8
+# The index of a crowd: the nanoseconds per operation, the microseconds per request, and how many requests it runs at a time.
+CROWDED = (4000, 1000, 4)
+# Clients that each write one document after another, the options of the relay, and the goal: the minimum ratio of their rate to the direct
+# one.
+CROWDS = ((32, (), 3.0), (256, ("--workers", "256"), 10.0))
+# For how many seconds the writes of a crowd count in a turn, and how many turns there are.
+CROWD_SECONDS, CROWD_TURNS = 2, 3
+# Idle connections, the clients beside them, and the goals: the maximum of the memory for them in bytes, and the minimum ratio of the rate of the
+# others to their rate alone.
+IDLE, BESIDE, IDLE_MEMORY_GOAL, IDLE_RATE_GOAL = 1_000, 16, 40_000_000, 0.95
 
 
 class Relay:
@@ -29,6 +41,11 @@ class Relay:
         self.process = subprocess.Popen([relay, *words], stdin=subprocess.PIPE, stdout=subprocess.PIPE, stderr=subprocess.PIPE, text=True)
         if not self.process.stderr.readline().startswith("listening on"):
             sys.exit("relay serve has not begun")
+
+    def memory(self):
+        """How much memory it has, in bytes."""
+        with open("/proc/%d/statm" % self.process.pid) as file:
+            return int(file.read().split()[1]) * resource.getpagesize()
 
     def stop(self):
         """Stops it, and returns how many operations it has had applied."""
@@ -104,6 +121,67 @@ def measure_rates(folder, relay, bulk, handing):
             print(line + (" (goal %.1f: %s)" % (RATE_GOAL, "met" if ratio >= RATE_GOAL else "MISSED") if nanoseconds else "") + beside(floor))
 
 
+def write(bulk, port, clients, seconds):
+    """Has so many clients write, and returns how many documents they wrote, and how many of those that count a second."""
+    found = re.fullmatch(r"(\d+) writes, ([\d.]+) a second, .*\n", once([bulk, "clients", port, str(clients), str(seconds)])[3])
+    return int(found[1]), float(found[2])
+
+
+def measure_crowds(relay, bulk):
+    nanoseconds, microseconds, threads = CROWDED
+    called = "a server that runs %d requests at a time, each %d microseconds and %d nanoseconds per operation" % (threads, microseconds, nanoseconds)
+    for clients, options, goal in CROWDS:
+        with Server(bulk, nanoseconds, None, microseconds, threads) as server:
+            standing, written = Relay(relay, server, *options), 0
+            rates = {standing.port: [], server.port: []}
+            for _ in range(CROWD_TURNS):
+                for port, of in rates.items():
+                    count, rate = write(bulk, port, clients, CROWD_SECONDS)
+                    written += count if port == standing.port else 0
+                    of.append(rate)
+            applied(standing, written)
+        own, direct = rates.values()
+        ratio = plain_rust.median([its / other for its, other in zip(own, direct)])
+        print("serve: single writes of %d clients, %s, %s: %.0f a second, direct %.0f, ratio %.1f (goal %.0f: %s)" % (clients, " ".join(["relay serve", *options]), called, plain_rust.median(own), plain_rust.median(direct), ratio, goal, "met" if ratio >= goal else "MISSED"))
+
+
+@contextlib.contextmanager
+def idle(relay, is_used):
+    """Has idle connections open: nothing has come on them, or, if they are used, a document was stored by each."""
+    streams = []
+    for number in range(IDLE):
+        stream = socket.create_connection(("127.0.0.1", int(relay.port)))
+        streams.append(stream)
+        if is_used:
+            stream.sendall(b"PUT /books/_doc/idle-%d HTTP/1.1\r\nHost: a\r\nContent-Length: 2\r\n\r\n{}" % number)
+            if not stream.recv(65536).startswith(b"HTTP/1.1 201 "):
+                sys.exit("relay serve has not stored the document of an idle connection")
+    yield
+    for stream in streams:
+        stream.close()
+
+
+def measure_idle(relay, bulk):
+    if resource.getrlimit(resource.RLIMIT_NOFILE)[0] < 3 * IDLE:
+        print("serve: idle connections were not measured: the limit of open files is below %d" % (3 * IDLE))
+        return
+    for is_used, called in ((False, "idle connections"), (True, "idle connections, each of which has stored a document")):
+        with Server(bulk, 0) as server:
+            standing = Relay(relay, server)
+            written, _ = write(bulk, standing.port, BESIDE, CROWD_SECONDS)
+            before, grown, ratios = standing.memory(), [], []
+            for _ in range(CROWD_TURNS):
+                count, alone = write(bulk, standing.port, BESIDE, CROWD_SECONDS)
+                with idle(standing, is_used):
+                    grown.append(standing.memory() - before)
+                    more, beside_them = write(bulk, standing.port, BESIDE, CROWD_SECONDS)
+                written += count + more + (IDLE if is_used else 0)
+                ratios.append(beside_them / alone)
+            applied(standing, written)
+        most, ratio = max(grown), plain_rust.median(ratios)
+        print("serve: %d %s: %.1f MB of memory before, at most %.1f MB more with them (goal under %.0f: %s); %d clients beside them wrote %.2f of their rate alone (goal %.2f: %s)" % (IDLE, called, before / 1e6, most / 1e6, IDLE_MEMORY_GOAL / 1e6, "met" if most < IDLE_MEMORY_GOAL else "MISSED", BESIDE, ratio, IDLE_RATE_GOAL, "met" if ratio >= IDLE_RATE_GOAL else "MISSED"))
+
+
 def measure(folder, relay):
     bulk, handing = plain_rust.build(folder, "bulk"), plain_rust.build(folder, "handing", "crossbeam-channel")
     if not bulk:
@@ -113,3 +191,5 @@ def measure(folder, relay):
         print("serve: the relay that only hands on was not measured: librust-crossbeam-channel-dev is not installed")
     measure_singles(relay, bulk, handing)
     measure_rates(folder, relay, bulk, handing)
+    measure_crowds(relay, bulk)
+    measure_idle(relay, bulk)

@@ -162,7 +162,7 @@ OUTSIDE = {
     RUN: ("run_cases.py", "option_cases.py", "outage_cases.py", "input_cases.py", "report_cases.py", "progress_cases.py", "log_cases.py"),
     PICK: ("pick_cases.py",),
     EPOCHS: ("epoch_cases.py",),
-    SERVE: ("serve_cases.py", "serve_hostile_cases.py", "serve_fair_cases.py"),
+    SERVE: ("serve_cases.py", "serve_hostile_cases.py", "serve_fair_cases.py", "serve_kills_cases.py"),
     REQUESTS: ("serve_cases.py", "serve_hostile_cases.py"),
     OPERATIONS: ("serve_cases.py",),
     ANSWERS: ("serve_cases.py", "serve_client_cases.py"),

@@ -26,8 +26,10 @@ import restart_cases
 import run_cases
 import serve_cases
 import serve_client_cases
+import serve_desk_cases
 import serve_fair_cases
 import serve_hostile_cases
+import serve_kills_cases
 import several_cases
 import skip_cases
 import state_cases
@@ -81,7 +83,7 @@ def command_line():
 # The suites by name, in the order in which they run.
 SUITES = {
     "lines": lines_cases.GROUPS, "apply": apply_cases.GROUPS, "stub": stub_cases.GROUPS, "client": client_cases.GROUPS, "run": run_cases.GROUPS, "serve": serve_cases.GROUPS,
-    "serve_hostile": serve_hostile_cases.GROUPS, "serve_fair": serve_fair_cases.GROUPS, "serve_clients": serve_client_cases.GROUPS, "recipe": recipe_cases.GROUPS,
+    "serve_desk": serve_desk_cases.GROUPS, "serve_hostile": serve_hostile_cases.GROUPS, "serve_fair": serve_fair_cases.GROUPS, "serve_kills": serve_kills_cases.GROUPS, "serve_clients": serve_client_cases.GROUPS, "recipe": recipe_cases.GROUPS,
     "pick": pick_cases.GROUPS, "proxy": proxy_cases.GROUPS, "reason": reason_cases.GROUPS, "option": option_cases.GROUPS, "several": several_cases.GROUPS, "skip": skip_cases.GROUPS, "state": state_cases.GROUPS,
     "input": input_cases.GROUPS, "outage": outage_cases.GROUPS, "minute": minute_cases.GROUPS, "socket": socket_cases.GROUPS, "pause": pause_cases.GROUPS, "report": report_cases.GROUPS, "stop": stop_cases.GROUPS,
     "progress": progress_cases.GROUPS, "log": log_cases.GROUPS, "reply": reply_cases.GROUPS, "too_large": too_large_cases.GROUPS, "restart": restart_cases.GROUPS,

@@ -11,9 +11,9 @@ import sys
 
 TESTS = os.path.dirname(os.path.abspath(__file__))
 # The suites in which time does not matter, the longest first.
-TIMELESS = (("pick",), ("serve_clients",), ("scripts",), ("lines", "apply", "command_line"), ("world",))
+TIMELESS = (("serve_kills",), ("pick",), ("serve_clients",), ("scripts",), ("lines", "apply", "command_line"), ("world",))
 # Sets of the others, each of which takes a minute or two; the rest are a set too.
-TIMED = (("stop", "reply"), ("run", "outage", "several"), ("epoch", "option", "progress"), ("serve_hostile",), ("serve_fair",), ("state",), ("minute",), ("recipe",))
+TIMED = (("stop", "reply"), ("run", "outage", "several"), ("epoch", "option", "progress"), ("serve_hostile",), ("serve_fair",), ("serve_desk",), ("state",), ("minute",), ("recipe",))
 REST = ("--except", *sum(TIMELESS + TIMED, ()))
 
 
