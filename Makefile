@@ -17,7 +17,7 @@ try:
 check:
 	@test -d "crates/$(CRATE)/src" || { echo "usage: make check CRATE=NAME, where crates/NAME is a crate"; exit 1; }
 	cd crates/$(CRATE) && rt check
-	@if test -d crates/$(CRATE)_tests; then cd crates/$(CRATE)_tests && rt test; fi
+	@tests="$$(python3 tests/crates.py $(CRATE))"; if test -n "$$tests"; then cd "crates/$$tests" && rt test; fi
 	@if test -d crates/$(CRATE)/must-fail; then rt must-fail $(CRATE); fi
 	@if test -d crates/$(CRATE)/edits; then python3 tests/edits.py $(CRATE); fi
 

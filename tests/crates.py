@@ -1,8 +1,10 @@
-"""What `crates.txt` says of the crates."""
+"""What `crates.txt` says of the crates, and where their tests are: `python3 tests/crates.py NAME` prints the test crate of a library."""
 import functools
+import glob
 import hashlib
 import os
 import subprocess
+import sys
 
 TOP = os.path.dirname(os.path.dirname(os.path.abspath(__file__)))
 CRATES = os.path.join(TOP, "crates")
@@ -33,6 +35,14 @@ def below(name):
     return sorted(needed([name]) - {name})
 
 
+def tests_of(library):
+    """Returns the folder that the tests of a library are in, if there is one: `src/NAME` of a test crate that several share, or `src` of
+    its own test crate."""
+    shared = glob.glob(os.path.join(CRATES, "*_tests", "src", library.removeprefix("relay_"), ""))
+    own = os.path.join(CRATES, library + "_tests", "src", "")
+    return next(filter(os.path.isdir, [*shared, own]), None)
+
+
 def files_below(folder, left_out=()):
     """Yields the path of each file below a folder, in order."""
     for place, folders, files in os.walk(folder):
@@ -56,3 +66,8 @@ def add_file(found, path):
         content = file.read()
     found.update(b"%s %d\n" % (os.path.relpath(path, TOP).encode(), len(content)))
     found.update(content)
+
+
+if __name__ == "__main__":
+    for folder in filter(None, map(tests_of, sys.argv[1:])):
+        print(os.path.relpath(folder, CRATES).split(os.sep)[0])

@@ -13,6 +13,7 @@ import re
 import sys
 
 import rules
+from crates import tests_of
 
 TOP = os.path.dirname(os.path.dirname(os.path.abspath(__file__)))
 PAGE = os.path.join(TOP, "docs", "RULES.md")
@@ -52,9 +53,9 @@ def is_path(word):
 
 def place_of(crate, word, last):
     """Resolves a path of a row: below the crate, at the top, or next to the path before it."""
-    tests = crate + "_tests"
+    tests = os.path.normpath(tests_of(os.path.basename(crate)) or crate)
     beside = os.path.dirname(last) if last else crate
-    for folder in (crate, TOP, beside, tests, tests + "/src", os.path.dirname(beside)):
+    for folder in (crate, TOP, beside, os.path.dirname(tests), tests, os.path.dirname(beside)):
         path = os.path.join(folder, word)
         if os.path.exists(path):
             return os.path.normpath(path)
@@ -67,7 +68,7 @@ def files_of(crate, column):
     built program."""
     code = sorted(glob.glob(crate + "/src/**/*.rt", recursive=True))
     specs = sorted(glob.glob(crate + "/specs/**/*.antt", recursive=True))
-    apart = sorted(glob.glob(crate + "_tests/src/**/*.rt", recursive=True))
+    apart = sorted(glob.glob((tests_of(os.path.basename(crate)) or crate) + "/*.rt"))
     outside = sorted(glob.glob(TOP + "/tests/*.py") + glob.glob(TOP + "/bench/*.py"))
     orders = {DEFINITIONS: (specs, code), CODE: (code, specs), TESTS: (apart, code, outside)}
     return orders.get(column, (specs, code, apart, outside))

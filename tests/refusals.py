@@ -18,6 +18,8 @@ import subprocess
 import sys
 import tempfile
 
+from crates import tests_of
+
 TOP = os.path.dirname(os.path.dirname(os.path.abspath(__file__)))
 CRATES = os.path.join(TOP, "crates")
 TABLE = os.path.join(TOP, "docs", "CONTRIBUTING.md")
@@ -47,7 +49,11 @@ def text_of(path):
 
 def modules_of(crate):
     """Returns the source of each module of a crate, by its path."""
-    folder, found = os.path.join(CRATES, crate, "src"), {}
+    return modules_in(os.path.join(CRATES, crate, "src"))
+
+
+def modules_in(folder):
+    found = {}
     for path in glob.glob(os.path.join(folder, "**", "*.rt"), recursive=True):
         name = os.path.relpath(path, folder)[: -len(".rt")].replace(os.sep, "::")
         if name not in ("lib", "main"):
@@ -133,30 +139,48 @@ def calls_that_allocate(crate, refusals):
 
 
 def rows():
-    """Yields each row of the table: the crate, its calls, the test, and where the test is."""
+    """Yields each row of the table: the crate, its calls, the test, and the folder that has the test, or the script."""
     part = text_of(TABLE).partition(HEADING + "\n")[2].partition("\n## ")[0]
     for line in re.findall(r"^\| (.*) \|$", part, re.M)[1:]:
         call, test = line.split(" | ")
         crate, *calls = re.findall(r"`([^`]+)`", call)
         test, *place = re.findall(r"`([^`]+)`", test)
-        yield crate, calls, test, place[0] if place else crate + "_tests"
+        yield crate, calls, test, folder_of(crate, place[0] if place else crate + "_tests")
 
 
-def source_of_tests(crate):
-    return os.path.join(CRATES, crate, "src", "refusals.rt")
+def folder_of(library, place):
+    """Returns the folder with the tests of a library, given the folder, their crate or the script: in a crate that of its own tests, if
+    it has one there."""
+    own = tests_of(library)
+    if place.endswith(".py"):
+        return place
+    return own if own and place in own.split(os.sep) else os.path.join(CRATES, place, "" if "/" in place else "src", "")
 
 
-def tests_of(crate):
-    """Returns the names of the tests in a test crate's refusals.rt."""
-    return re.findall(r"^#\[test\]\nfn (\w+)\(", text_of(source_of_tests(crate)), re.M)
+def crate_of(folder):
+    return os.path.relpath(folder, CRATES).split(os.sep)[0]
 
 
-def calls_made(crate):
-    """Returns the source of a test crate's refusals.rt, of the modules that it uses, and of the fixtures that these use."""
-    source = text_of(source_of_tests(crate))
-    for place, prefix in (crate, "crate"), (FIXTURES, FIXTURES):
-        used = set(re.findall(r"\w+", " ".join(re.findall(r"^use %s::(\w+|\{[^}]*\})" % prefix, source, re.M))))
-        source += "".join(text for name, text in modules_of(place).items() if name in used)
+def module_of(folder):
+    """Returns the path of the module that a folder of tests is, for what is in it."""
+    return "".join(it + "::" for it in os.path.relpath(folder, CRATES).split(os.sep)[2:])
+
+
+def source_of_tests(folder):
+    return os.path.join(folder, "refusals.rt")
+
+
+def tests_in(folder):
+    """Returns the names of the tests in a folder's refusals.rt."""
+    return re.findall(r"^#\[test\]\nfn (\w+)\(", text_of(source_of_tests(folder)), re.M)
+
+
+def calls_made(folder):
+    """Returns the source of a folder's refusals.rt, of the modules beside it that it uses, and of the fixtures that these use."""
+    source = text_of(source_of_tests(folder))
+    for modules, prefix in (modules_in(folder), "crate::" + module_of(folder)), (modules_of(FIXTURES), FIXTURES + "::"):
+        used = set(re.findall(r"\w+", " ".join(re.findall(r"^use %s(\w+|\{[^}]*\})" % prefix, source, re.M))))
+        source += "".join(text for name, text in modules.items() if name in used)
     return source
 
 
@@ -167,16 +191,17 @@ def makes_call(source, call, on_value):
     return re.search(before + name + r"(::<.*>)?\(", source) is not None
 
 
-def check_row(crate, calls, test, place, wanted):
-    if place.endswith(".py"):
-        if "def %s(" % test not in text_of(os.path.join(TOP, place)):
-            fault("no function `%s` in %s" % (test, place))
+def check_row(crate, calls, test, folder, wanted):
+    if folder.endswith(".py"):
+        if "def %s(" % test not in text_of(os.path.join(TOP, folder)):
+            fault("no function `%s` in %s" % (test, folder))
         return
-    if not os.path.exists(source_of_tests(place)) or test not in tests_of(place):
+    place = crate_of(folder)
+    if not os.path.exists(source_of_tests(folder)) or test not in tests_in(folder):
         fault("no test `%s` in the refusals.rt of %s" % (test, place))
         return
     for call in calls:
-        if call in wanted and not makes_call(calls_made(place), call, wanted[call]):
+        if call in wanted and not makes_call(calls_made(folder), call, wanted[call]):
             fault("`%s` of %s does not call `%s` of %s" % (test, place, call, crate))
 
 
@@ -192,8 +217,8 @@ def check_table():
     for crate, call in named:
         if call not in wanted.get(crate, {}):
             fault("`%s` of %s has a row in docs/CONTRIBUTING.md and does not allocate, or is not there" % (call, crate))
-    for crate, calls, test, place in table:
-        check_row(crate, calls, test, place, wanted.get(crate, {}))
+    for crate, calls, test, folder in table:
+        check_row(crate, calls, test, folder, wanted.get(crate, {}))
     return sum(len(calls) for calls in wanted.values())
 
 
@@ -211,30 +236,31 @@ def refusing(library, **how):
     return {**os.environ, "LD_PRELOAD": library, **{key: "%d" % value for key, value in how.items()}}
 
 
-def crates_with_tests():
-    return [os.path.basename(os.path.dirname(os.path.dirname(it))) for it in sorted(glob.glob(os.path.join(CRATES, "*_tests", "src", "refusals.rt")))]
+def folders_with_tests():
+    return [os.path.join(os.path.dirname(it), "") for it in sorted(glob.glob(os.path.join(CRATES, "*_tests", "src", "**", "refusals.rt"), recursive=True))]
 
 
-def built(crate):
+def built(tests):
+    crate = crate_of(tests)
     return os.path.join(CRATES, crate, "out", crate + "_tests")
 
 
-def is_built(crate):
-    """Returns true if the crate's tests are built, and their names are those of the source."""
-    if not os.path.exists(built(crate)):
-        fault("%s is not built: `make test` builds it" % crate)
+def is_built(tests):
+    """Returns true if the tests of this folder are built, and their names are those of the source."""
+    if not os.path.exists(built(tests)):
+        fault("%s is not built: `make test` builds it" % crate_of(tests))
         return False
-    listed = subprocess.run([built(crate), "--list"], stdin=subprocess.DEVNULL, capture_output=True, text=True).stdout
-    if set(re.findall(r"^refusals::(\w+): test$", listed, re.M)) != set(tests_of(crate)):
-        fault("the tests of %s are not built as they are now: `make test` builds them" % crate)
+    listed = subprocess.run([built(tests), "--list"], stdin=subprocess.DEVNULL, capture_output=True, text=True).stdout
+    if set(re.findall(r"^%srefusals::(\w+): test$" % module_of(tests), listed, re.M)) != set(tests_in(tests)):
+        fault("the tests of %s are not built as they are now: `make test` builds them" % crate_of(tests))
         return False
     return True
 
 
-def try_at(library, crate, test, number, folder):
+def try_at(library, tests, test, number, folder):
     """Runs a test with one allocation refused. Returns whether one was, and what went wrong."""
     try:
-        done = subprocess.run([built(crate), "refusals::" + test], env=refusing(library, REFUSE_AT=number), cwd=folder, stdin=subprocess.DEVNULL, capture_output=True, timeout=SECONDS)
+        done = subprocess.run([built(tests), module_of(tests) + "refusals::" + test], env=refusing(library, REFUSE_AT=number), cwd=folder, stdin=subprocess.DEVNULL, capture_output=True, timeout=SECONDS)
     except subprocess.TimeoutExpired:
         return True, "has not ended after %d s" % SECONDS
     said = (done.stdout + done.stderr).replace(REFUSED, b"").decode(errors="replace").strip()
@@ -242,24 +268,25 @@ def try_at(library, crate, test, number, folder):
     return REFUSED in done.stderr, wrong
 
 
-def refuse_each(library, crate, test, folder):
+def refuse_each(library, tests, test, folder):
     """Refuses each allocation of a test in turn. Returns how many there are, and what went wrong at which."""
     wrongs = []
     for number in range(1, MOST):
-        met, wrong = try_at(library, crate, test, number, folder)
+        met, wrong = try_at(library, tests, test, number, folder)
         if wrong:
-            wrongs.append("`%s` of %s with allocation %d refused %s" % (test, crate, number if met else 0, wrong))
+            wrongs.append("`%s` of %s with allocation %d refused %s" % (test, crate_of(tests), number if met else 0, wrong))
         if not met or len(wrongs) >= 3:
             return number - 1, wrongs
-    return MOST, ["`%s` of %s has more than %d allocations" % (test, crate, MOST)]
+    return MOST, ["`%s` of %s has more than %d allocations" % (test, crate_of(tests), MOST)]
 
 
 def check_tests(library, folder, wanted):
     """Runs every test, one per processor at a time."""
-    tasks = [(crate, test) for crate in crates_with_tests() if (not wanted or crate in wanted) and is_built(crate) for test in tests_of(crate)]
+    tasks = [(tests, test) for tests in folders_with_tests() if (not wanted or crate_of(tests) in wanted) and is_built(tests) for test in tests_in(tests)]
     with concurrent.futures.ThreadPoolExecutor(os.cpu_count()) as pool:
-        for (crate, test), (count, wrongs) in zip(tasks, pool.map(lambda task: refuse_each(library, *task, folder), tasks)):
-            print("  %-24s %-32s %6d allocations refused" % (crate, test, count), flush=True)
+        for (tests, test), (count, wrongs) in zip(tasks, pool.map(lambda task: refuse_each(library, *task, folder), tasks)):
+            crate = crate_of(tests)
+            print("  %-24s %-44s %6d allocations refused" % (crate, module_of(tests) + test, count), flush=True)
             for wrong in wrongs:
                 fault(wrong)
             if count == 0:

@@ -23,7 +23,7 @@ BUILD_SECONDS, TEST_SECONDS = 900, 300
 # Freed memory is used again at once, since one case compares how much memory two runs take, and a run may take longer.
 CHECKED = {**os.environ, "ASAN_OPTIONS": "quarantine_size_mb=0:thread_local_quarantine_size_kb=0", "SECONDS_FOR_A_RUN": "300", "FEWER_CASES": "1"}
 # The test crates that take longest, the longest first. The others follow, those with the most crates below them first.
-LONGEST = ("relay_run_tests", "relay_telling_tests", "relay_http_tests", "relay_threads_tests", "relay_wires_tests", "relay_commands_tests")
+LONGEST = ("relay_run_tests", "relay_telling_tests", "relay_http_tests", "relay_threads_tests", "relay_lane_tests", "relay_commands_tests", "relay_net_tests")
 
 
 def programs():

@@ -1,4 +1,4 @@
-//! The tests of `relay_commands`.
+//! The tests of `relay_commands`, and in folders those of `relay_report`, `relay_scenario`, `relay_sift`.
 #![tactic(auto)]
 
 #[cfg(test)]
@@ -9,5 +9,11 @@ mod lines;
 mod refusals;
 #[cfg(test)]
 mod refuse_lists;
+#[cfg(test)]
+mod report;
+#[cfg(test)]
+mod scenario;
+#[cfg(test)]
+mod sift;
 #[cfg(test)]
 mod statuses;

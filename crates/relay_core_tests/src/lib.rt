@@ -1,4 +1,4 @@
-//! The tests of `relay_core`.
+//! The tests of `relay_core`, and in a folder those of `relay_world`.
 #![tactic(auto)]
 
 #[cfg(test)]
@@ -15,3 +15,5 @@ mod refusals;
 mod schedules;
 #[cfg(test)]
 mod successes;
+#[cfg(test)]
+mod world;

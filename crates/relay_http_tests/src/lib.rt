@@ -1,8 +1,10 @@
 //! Tests of `relay_http`, over its public items: tables of replies and requests, in pieces of
 //! several sizes and cut at each position; messages at their limits; what is written; failing
-//! streams; and what other programs write.
+//! streams; and what other programs write. In a folder those of `relay_epoch`.
 #![tactic(auto)]
 
+#[cfg(test)]
+mod epoch;
 #[cfg(test)]
 mod failing;
 #[cfg(test)]

@@ -1,4 +1,4 @@
-//! The tests of `relay_lane`.
+//! The tests of `relay_lane`, and in folders those of `relay_pace`, `relay_wires` and `relay_loop`.
 #![tactic(auto)]
 
 #[cfg(test)]
@@ -10,6 +10,10 @@ mod losing;
 #[cfg(test)]
 mod many;
 #[cfg(test)]
+mod pace;
+#[cfg(test)]
 mod refusals;
 #[cfg(test)]
 mod telling;
+#[cfg(test)]
+mod wires;

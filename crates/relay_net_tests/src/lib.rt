@@ -1,6 +1,7 @@
 //! Tests of `relay_net`: requests over the loopback, from a wire's dial to the stand-in server's
 //! listener and back, also to a server in its own thread; addresses that cannot be dialled or
-//! listened on; names with several addresses; dials that try again; and reads that wait too long.
+//! listened on; names with several addresses; dials that try again; and reads that wait too long. In
+//! a folder those of `relay_stub`.
 #![tactic(auto)]
 
 #[cfg(test)]
@@ -13,5 +14,7 @@ mod loopback;
 mod names;
 #[cfg(test)]
 mod patience;
+#[cfg(test)]
+mod stub;
 #[cfg(test)]
 mod timeout;

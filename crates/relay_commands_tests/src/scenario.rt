@@ -1,0 +1,5 @@
+//! The tests of `relay_scenario`.
+
+mod lines;
+mod refusals;
+mod scripts;

@@ -1,0 +1,5 @@
+//! The tests of `relay_sift`.
+
+mod checks;
+mod refusals;
+mod sifted;

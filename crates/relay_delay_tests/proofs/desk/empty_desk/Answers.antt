@@ -1,5 +1,0 @@
-use Rattle.relay_delay_tests.proofs.Under.{under_none}
-use Rattle.relay_delay_tests.proofs.desk.empty_desk.Goals as goal
-
-pub invariant_of-result : goal.invariant_of-result
-invariant_of-result c = record { under = under_none 1 c.new.result 0 0 c.new.ensures; apart = tt }

@@ -1,0 +1,2 @@
+pub mod DelayUnder
+pub mod HeldUnder

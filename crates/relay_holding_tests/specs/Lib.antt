@@ -1,0 +1,2 @@
+pub mod DelayDesk
+pub mod HeldUnder

@@ -1,0 +1,5 @@
+//! The tests of `relay_delay`.
+
+mod calls;
+mod desk;
+mod refusals;

@@ -1,0 +1,5 @@
+//! The tests of `relay_held`.
+
+mod calls;
+mod desk;
+mod refusals;

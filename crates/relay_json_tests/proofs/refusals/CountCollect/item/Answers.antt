@@ -1,4 +1,0 @@
-use Rattle.relay_json_tests.proofs.refusals.CountCollect.item.Goals as goal
-
-pub returns-clause-ok : goal.returns-clause-ok
-returns-clause-ok c = let read = c.in_ok-leaf.ensures.ok in (read.0, read.1, λ ms h. tt)
