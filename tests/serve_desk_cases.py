@@ -12,19 +12,11 @@ import time
 from bulk_server import Server
 from program import FEWER, RELAY, check
 from run_cases import wait_until
-from serve_cases import Serve, body_of, metrics_of
+from serve_cases import Serve, body_of, metrics_of, received
 from stub_cases import free_port
 
 STAMP = re.compile(rb"(\d{4}-\d\d-\d\dT\d\d:\d\d:\d\dZ) ([^\n]*)")
 MIB = 1 << 20
-
-
-def read_on(stream):
-    """Reads to the end of a stream, in a thread. Returns what arrives, and the thread."""
-    found = []
-    thread = threading.Thread(target=lambda: found.extend(iter(lambda: stream.read1(65536), b"")), daemon=True)
-    thread.start()
-    return found, thread
 
 
 def stamped(err):
@@ -228,19 +220,6 @@ def fill(peer, count):
     return sent
 
 
-def rest_of(peer):
-    """What comes to the end of the connection."""
-    said = b""
-    while True:
-        try:
-            more = peer.recv(65536)
-        except ConnectionError:
-            return said
-        if not more:
-            return said
-        said += more
-
-
 def room():
     """`--max-open-bytes`: what does not fit waits, is let in once there is room, and is refused once it has waited for long enough."""
     size = 3 * MIB
@@ -260,7 +239,7 @@ def room():
     third = begin(port, size)
     began = time.monotonic()
     fill(third, 65536)
-    said = rest_of(third)
+    said = received(third)
     took = time.monotonic() - began
     third.close()
     check("the third is refused", said.startswith(b"HTTP/1.1 429 Too Many Requests\r\n") and b"\r\nretry-after: 1\r\n" in said and b"connection: close" in said and json.loads(said.partition(b"\r\n\r\n")[2])["status"] == 429, said)

@@ -144,17 +144,11 @@ class Mortal(Server):
 
     def rise(self, seconds):
         """Drops all connections, refuses others for so long, and is back."""
-        self.close()
-        with self.lock:
-            streams, self.streams = self.streams, []
-        for stream in streams:
-            try:
-                stream.shutdown(socket.SHUT_RDWR)
-            except OSError:
-                pass
-        time.sleep(seconds)
+        self.rest(seconds)
+
+    def listen(self, port):
         self.is_up = True
-        self.listen(self.port)
+        super().listen(port)
 
 
 class Try:
