@@ -638,8 +638,8 @@ def watched():
     check("how the operations ended", ends == {"applied": 4, "already": 0, "reported": 1, "late": 0, "unput": 0, "gone": 0}, ends)
     buckets = [value for name, value in found.items() if name.startswith("relay_request_seconds_bucket")]
     check("how long the requests took", found["relay_request_seconds_count"] == 2 == buckets[-1] and buckets == sorted(buckets) and len(buckets) == 11, found)
-    check("what the index was sent", found["relay_index_operations_total"] == 5 and found["relay_index_requests_total"] == found["relay_index_answers_total"] == server.requests and found["relay_index_up"] == 1, found)
-    check("nothing is open", found["relay_open_operations"] == 0 and found["relay_open_bytes"] < 65536, found)
+    check("what the index was sent", found["relay_index_operations_total"] == 5 and found["relay_index_requests_total"] == found['relay_index_answers_total{status="200"}'] == server.requests and found["relay_index_up"] == 1, found)
+    check("nothing is open", found['relay_open_operations{lane="0"}'] == found['relay_open_operations{lane="1"}'] == found["relay_oldest_open_seconds"] == 0 and found["relay_open_bytes"] < 65536, found)
     check("its connections", found['relay_connections{state="served"}'] >= 1 and found['relay_connections{state="waiting"}'] == 0, found)
     server.close()
     with server.lock:
@@ -650,7 +650,11 @@ def watched():
     asking.start()
     wait_until(lambda: serve.ask("GET", "/_relay/health")[0] == 503)
     check("it is down", serve.ask("GET", "/_relay/health") == (503, {"status": "down", "reason": "the index does not answer"}))
-    check("so its metrics say", metrics_of(serve)["relay_index_up"] == 0)
+    time.sleep(0.2)
+    found = metrics_of(serve)
+    check("so its metrics say", found["relay_index_up"] == 0, found)
+    check("one operation is open, in one lane", sorted(found['relay_open_operations{lane="%d"}' % lane] for lane in (0, 1)) == [0, 1], found)
+    check("for as long as its request", 0.1 <= found["relay_oldest_open_seconds"] <= 8, found)
     server.listen(server.port)
     asking.join()
     check("it is up again", serve.ask("GET", "/_relay/health") == (200, {"status": "up"}))

@@ -21,7 +21,8 @@ use Rattle.relay_results.specs.declared.cause.Loss.TheVariants.{Closed}
 use Rattle.relay_results.specs.Fates.{IsRetried}
 use Rattle.relay_delivery.specs.Schedules.{op, accepted_of, ran, failed_run, entry, failed_entry, conflict, busy, refusal, Plays, LostThenAlready, LateRunChangesNothing, RunTwice, answered_whole, RefusedOrRejected, BusyThenNext, GivenUpAndApplied, ThreeThenOne, HalvedThenAlone}
 use Rattle.relay_results.proofs.Lists.{apart_tests, none_some, some_same, sub_itself}
-use Rattle.relay_results.proofs.Same.{bytes_eq-self, same_document-self, same_write-self, same_kind-Decides, and-true}
+use Rattle.relay_results.proofs.Both.{and-true}
+use Rattle.relay_results.proofs.Same.{bytes_eq-self, same_document-self, same_write-self, same_kind-Decides}
 
 -- ---- attributions
 

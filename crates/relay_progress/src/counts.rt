@@ -2,6 +2,7 @@
 use crate::reason::{code_of, loss_of};
 use crate::refusals::{Refusal, Refusals};
 use crate::sight::Sight;
+use crate::statuses::Statuses;
 use relay_lane::Loss;
 use std::alloc::{AllocError, Global};
 use std::sync::Arc;
@@ -55,6 +56,7 @@ pub struct Counts {
     too_large: AtomicU64,
     conflicts: AtomicU64,
     refusals: Refusals,
+    statuses: Statuses,
 }
 
 /// Counts that several threads hold.
@@ -63,10 +65,12 @@ pub type Shared = Arc<Counts, Global>;
 impl Counts {
     /// Counts that are all 0. `AllocError`: allocation failed.
     pub fn shared(alloc: Global) -> Result<Shared, AllocError> {
-        Ok(Arc::new(alloc, Counts::new(Refusals::new(alloc)?))?)
+        let refusals = Refusals::new(alloc)?;
+        let statuses = Statuses::new(alloc)?;
+        Ok(Arc::new(alloc, Counts::new(refusals, statuses))?)
     }
 
-    fn new(refusals: Refusals) -> Counts {
+    fn new(refusals: Refusals, statuses: Statuses) -> Counts {
         Counts {
             read: AtomicU64::new(0),
             requests: AtomicU64::new(0),
@@ -83,6 +87,7 @@ impl Counts {
             too_large: AtomicU64::new(0),
             conflicts: AtomicU64::new(0),
             refusals,
+            statuses,
         }
     }
 
@@ -129,8 +134,9 @@ impl Counts {
         self.down.store(1, Ordering::SeqCst);
     }
 
-    /// Notes that a request was answered, whatever the answer was.
-    pub fn note_answer(&self) {
+    /// Notes that a request was answered with this status.
+    pub fn note_answer(&self, status: u16) {
+        self.statuses.add(status);
         if self.down.load(Ordering::SeqCst) != 0 {
             self.down.store(0, Ordering::SeqCst);
         }
@@ -193,6 +199,11 @@ impl Counts {
     /// The number of requests that were answered.
     pub fn answers(&self) -> u64 {
         self.answers.load(Ordering::SeqCst)
+    }
+
+    /// The number of requests that were answered with this status.
+    pub fn answered_with(&self, status: u16) -> u64 {
+        self.statuses.get(status)
     }
 
     /// The number of requests that were answered or lost.

@@ -18,6 +18,8 @@ mod reason;
 mod refusals;
 pub mod show;
 pub mod sight;
+mod stamp;
+mod statuses;
 pub mod wire;
 
 pub use counts::{Counts, Shared, Trouble};
@@ -29,4 +31,6 @@ pub use reader::CountedReader;
 pub use refusals::Refusal;
 pub use show::{Show, show_progress};
 pub use sight::{NOTHING, Outage, Said, Sight, after, may_say, next_event, noticed};
+pub use stamp::add_stamp;
+pub use statuses::{HIGHEST_STATUS, LOWEST_STATUS};
 pub use wire::CountedWire;

@@ -5,10 +5,10 @@ use crate::line::Progress;
 use crate::refusals::REFUSAL_LIMIT;
 use crate::show::Show;
 use crate::sight::{NOTHING, Said, after, next_event, noticed};
-use jiff::Timestamp;
+use crate::stamp::add_stamp;
 use relay_action::{ByteOut, write_all};
 use std::alloc::{AllocError, Global};
-use std::time::{Clock, Duration, Instant, SystemTime, UNIX_EPOCH};
+use std::time::{Clock, Duration, Instant};
 
 /// What is said while a run goes on.
 #[derive(Clone, Copy, Debug, PartialEq, Eq)]
@@ -135,14 +135,6 @@ fn millis_of(duration: Duration) -> u64 {
     millis.saturating_add(duration.subsec_millis() as u64)
 }
 
-// The time in UTC to the second, if the clock can be read.
-fn time_now<R: Clock>(rt: &R) -> Option<Timestamp> {
-    let now = SystemTime::now(rt).ok()?;
-    let since = now.duration_since(UNIX_EPOCH).ok()?;
-    let seconds = i64::try_from(since.as_secs()).ok()?;
-    Timestamp::from_second(seconds).ok()
-}
-
 // The beginning of a line: the time in UTC, such as `2026-11-27T19:44:44Z`, unless the clock cannot
 // be read, and the address. On a terminal the line replaces the previous one.
 fn begun_line<R: Clock>(rt: &R, alloc: Global, show: &Show) -> Result<Vec<u8>, AllocError> {
@@ -150,10 +142,7 @@ fn begun_line<R: Clock>(rt: &R, alloc: Global, show: &Show) -> Result<Vec<u8>, A
     if show.over {
         text.extend_from_slice(b"\r\x1b[K")?;
     }
-    if let Some(time) = time_now(rt) {
-        let stamp = format!(in alloc; "{time} ")?;
-        text.extend_from_slice(stamp.as_bytes())?;
-    }
+    add_stamp(rt, alloc, &mut text)?;
     text.extend_from_slice(show.address.as_bytes())?;
     text.extend_from_slice(b": ")?;
     Ok(text)

@@ -123,10 +123,18 @@ fn count_received(counts: &Counts, operations: u64, came: &Result<WireReply, Los
 fn note_received(counts: &Counts, alloc: Global, operations: u64, came: &Result<WireReply, Loss>) {
     match came {
         Ok(reply) => {
-            counts.note_answer();
+            counts.note_answer(status_of(reply));
             note_reply(counts, alloc, operations, reply);
         }
         Err(loss) => counts.note_failure(*loss),
+    }
+}
+
+// The status of a reply: entries come with 200.
+fn status_of(reply: &WireReply) -> u16 {
+    match reply {
+        WireReply::Items(_) => 200,
+        WireReply::Whole(status, _) => *status,
     }
 }
 

@@ -13,12 +13,18 @@ pub fn asks_counted(alloc: Global, way: Way, counts: Option<Shared>) -> Told {
     asks(alloc, &mut wire, 1, "2", 7)
 }
 
-// The same, and how many requests, operations, answers and ends are counted, and how many operations
-// are settled, are refused and are neither.
-fn counted(rt: &(impl Abort + AllocGlobal), way: Way) -> (Told, [u64; 7]) {
+// What a counted wire returns for a delete, and its counts.
+fn counted_by(rt: &(impl Abort + AllocGlobal), way: Way) -> (Told, Shared) {
     let counts = Counts::shared(rt.alloc()).expect(rt, "memory");
     let shared = Arc::try_clone(&counts).expect(rt, "a handle");
     let told = asks_counted(rt.alloc(), way, Some(shared));
+    (told, counts)
+}
+
+// The same, and how many requests, operations, answers and ends are counted, and how many operations
+// are settled, are refused and are neither.
+fn counted(rt: &(impl Abort + AllocGlobal), way: Way) -> (Told, [u64; 7]) {
+    let (told, counts) = counted_by(rt, way);
     let found = [
         counts.requests(),
         counts.operations(),
@@ -82,6 +88,30 @@ const ROWS: &[(Way, Told, [u64; 7])] = &[
 fn requests_that_were_sent(rt: HostRuntime) {
     for (way, told, wanted) in ROWS {
         assert!(rt; counted(&rt, *way) == (*told, *wanted), "{way:?}");
+    }
+}
+
+// The status of an answer: entries come with 200.
+fn status_of(told: Told) -> Option<u16> {
+    match told {
+        Told::Entries(_, _) => Some(200),
+        Told::Whole(status) => Some(status),
+        _ => None,
+    }
+}
+
+// Whether a status is counted exactly if the answer has it.
+fn counts_its_status(rt: &(impl Abort + AllocGlobal), way: Way, told: Told) -> bool {
+    let (_, counts) = counted_by(rt, way);
+    [99u16, 100, 200, 400, 413, 429, 502, 503, 504, 599, 600]
+        .iter()
+        .all(|status| counts.answered_with(*status) == u64::from(status_of(told) == Some(*status)))
+}
+
+#[test]
+fn statuses_of_answers(rt: HostRuntime) {
+    for (way, told, _) in ROWS {
+        assert!(rt; counts_its_status(&rt, *way, *told), "{way:?}");
     }
 }
 

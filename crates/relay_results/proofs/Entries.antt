@@ -10,7 +10,8 @@ use Rattle.relay_action.specs.declared.write.Write.{Write}
 use Rattle.relay_results.specs.declared.outcome.Outcome.{Outcome}
 use Rattle.relay_results.specs.Documents.{same_kind}
 use Rattle.relay_results.specs.Matching.{is_entry_for, matches, Matches}
-use Rattle.relay_results.proofs.Same.{both, and-true, same_kind-Decides}
+use Rattle.relay_results.proofs.Both.{both, and-true}
+use Rattle.relay_results.proofs.Same.{same_kind-Decides}
 
 suc-eqb : (m n : ℕ) → (suc m == suc n) ≡ (m == n)
 suc-eqb m n = grind arith

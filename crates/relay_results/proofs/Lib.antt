@@ -1,5 +1,6 @@
 pub mod Lists
 pub mod Entries
+pub mod Both
 pub mod Same
 pub mod OneMore
 pub mod Excluded

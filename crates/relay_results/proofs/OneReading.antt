@@ -1,5 +1,5 @@
 -- A text says one thing at most.
-use Rattle.std.proofs.Common.{◌≡◌, ◌<◌, ◌⊎◌, ℕ, zero, suc, List, [], ◌∷◌, take, Option, Some, None, refl, ap, sym, ◌∙◌, subst, arith, inl, inr}
+use Rattle.std.proofs.Common.{◌≡◌, ◌≢◌, ◌<◌, ◌⊎◌, ℕ, zero, suc, List, [], ◌∷◌, take, Option, Some, None, refl, ap, sym, ◌∙◌, subst, arith, inl, inr}
 use Rattle.std.specs.Prelude.{codes}
 use Rattle.serde_json.specs.Data.{Data, string, number, array, object, unsigned, Items, no_items, item, Members, member, no_members}
 use Rattle.serde_json.specs.Find.{get}
@@ -7,11 +7,11 @@ use Rattle.relay_action.specs.Actions.{kind_name}
 use Rattle.relay_action.proofs.Actions.{one_kind}
 use Rattle.relay_results.specs.declared.outcome.ErrorDetail.{ErrorDetail}
 use Rattle.relay_results.specs.declared.outcome.Outcome.{Outcome}
+use Rattle.relay_results.specs.declared.reading.ReplyFault.{ReplyFault}
 use Rattle.relay_results.specs.declared.reading.ReplyFault.TheVariants as fault
 use Rattle.relay_results.specs.Stored.{SaysStored}
-use Rattle.relay_results.specs.Replies.{ReadsAs, IsTruncated, error_limit, reason_limit, error_member, ErrorTexts, error_texts, KeepsReason, IsDetail, SaysError, IsEntry, AreEntries, HasItems, IsBadAt}
+use Rattle.relay_results.specs.Replies.{ReadsAs, IsTruncated, error_limit, reason_limit, error_member, ErrorTexts, error_texts, KeepsReason, IsDetail, SaysError, IsEntry, AreEntries, HasItems, IsBadAt, IsBulkReply, IsFaultOf}
 use Rattle.relay_results.proofs.Stated.{one_version}
-use Rattle.relay_results.specs.Laws.{OneReply, NoFaultOfReply, OneFault}
 
 -- ---- an entry says one outcome
 
@@ -91,7 +91,7 @@ one_value text d e x y = let same : Some d ≡ Some e = sym x.value ∙ y.value 
 one_items : (d : Data) (xs ys : Items) → HasItems d xs → HasItems d ys → xs ≡ ys
 one_items d xs ys x y = let same : Some (array xs) ≡ Some (array ys) = sym x ∙ y in cc
 
-pub one_reply : OneReply
+pub one_reply : (text : List ℕ) (os ps : List Outcome) → IsBulkReply text os → IsBulkReply text ps → os ≡ ps
 one_reply text os ps x y =
     let values = one_value text x.value y.value x.reads y.reads in
     let entries : x.entries ≡ y.entries = one_items y.value x.entries y.entries (subst (λ d. HasItems d x.entries) values x.items) y.items in
@@ -105,7 +105,7 @@ none_bad (item d ds) [] place x y = x
 none_bad (item d ds) (o ∷ os) zero x y = y o x.0
 none_bad (item d ds) (o ∷ os) (suc place) x y = none_bad ds os place x.1 y.1
 
-pub no_fault : NoFaultOfReply
+pub no_fault : (text : List ℕ) (os : List Outcome) (e : ReplyFault) → IsBulkReply text os → IsFaultOf text e → e ≡ fault.Memory
 no_fault text os fault.NotJson x y = absurd (y x.value x.reads)
 no_fault text os fault.NoItems x y =
     absurd (y.2 x.entries (subst (λ d. HasItems d x.entries) (one_value text x.value y.0 x.reads y.1) x.items))
@@ -121,7 +121,9 @@ one_place (item d ds) zero (suc n) x y = absurd (x y.0.0 y.0.1)
 one_place (item d ds) (suc m) zero x y = absurd (y x.0.0 x.0.1)
 one_place (item d ds) (suc m) (suc n) x y = ap suc (one_place ds m n x.1 y.1)
 
-pub one_fault : OneFault
+pub one_fault :
+    (text : List ℕ) (e f : ReplyFault) → e ≢ fault.Memory → f ≢ fault.Memory →
+    IsFaultOf text e → IsFaultOf text f → e ≡ f
 one_fault text fault.NotJson fault.NotJson a b x y = refl
 one_fault text fault.NotJson fault.NoItems a b x y = absurd (x y.0 y.1)
 one_fault text fault.NotJson (fault.BadItem n) a b x y = absurd (x y.0 y.2)

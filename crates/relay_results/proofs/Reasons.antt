@@ -12,7 +12,7 @@ use Rattle.std.proofs.lemmas.Grind.{common_steps}
 use Rattle.relay_results.specs.declared.done.VersionConflict.{VersionConflict}
 use Rattle.relay_results.specs.Conflicts.{conflict_reason, may_cut, last_cut, front}
 use Rattle.relay_results.specs.Replies.{IsTruncated, reason_limit}
-use Rattle.relay_results.proofs.Same.{both, and-true}
+use Rattle.relay_results.proofs.Both.{both, and-true}
 use Rattle.relay_results.proofs.OneReading.{one_cut}
 use Rattle.relay_results.specs.Stored.{stored_mark, StatesStored}
 

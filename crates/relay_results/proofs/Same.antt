@@ -11,15 +11,7 @@ use Rattle.relay_action.specs.declared.write.Write.{Write}
 use Rattle.relay_action.specs.declared.operation.Op.{Op}
 use Rattle.relay_action.specs.declared.operation.OpName.{OpName}
 use Rattle.relay_results.specs.Documents.{Document, document_of, same_document, source_of, same_source, same_kind, same_write, same_name, same_op, name_of}
-use Rattle.relay_results.specs.Laws.{NamesEqual}
-
--- both parts of a test hold
-pub both : (a b : Bool) → (a && b) ≡ true → (a ≡ true) × (b ≡ true)
-both true b h = (refl, h)
-both false b h = cc
-
-pub and-true : (a b : Bool) → a ≡ true → b ≡ true → (a && b) ≡ true
-and-true a b h k = rw (h, k) refl
+use Rattle.relay_results.proofs.Both.{both, and-true}
 
 pub bytes_eq-self : (xs : List ℕ) → bytes_eq xs xs ≡ true
 bytes_eq-self xs = (bytes_eq-Decides xs xs).1 refl
@@ -83,7 +75,7 @@ same_name-self a =
     and-true _ _ ((Decides-eqb a.epoch a.epoch).1 refl)
     (and-true _ _ ((Decides-eqb a.producer a.producer).1 refl) ((Decides-eqb a.number a.number).1 refl))
 
-pub names_equal : NamesEqual
+pub names_equal : (a b : OpName) → (same_name a b ≡ true → a ≡ b) × (a ≡ b → same_name a b ≡ true)
 names_equal a b = (same_name-true a b, λ e. ap (same_name a) (sym e) ∙ same_name-self a)
 
 -- and two operations one name, one document and one action

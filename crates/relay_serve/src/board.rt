@@ -1,9 +1,11 @@
 //! What the threads of a server share.
 use crate::counts::Counts;
+use crate::options::ServeOptions;
 use relay_clients::{Places, Room, Signals};
 use std::alloc::{AllocError, Global};
 use std::sync::Arc;
 use std::sync::atomic::{AtomicU64, Ordering};
+use std::time::Instant;
 
 // How many operations of a term may be reported before the next one begins: lanes keep reports until
 // their term ends.
@@ -23,8 +25,13 @@ pub struct Board {
     pub(crate) places: Places,
     /// The bytes of requests that are open.
     pub(crate) room: Room,
-    // How many operations were put and have not ended.
-    open: AtomicU64,
+    // How many operations were put to each lane and have not ended.
+    open: Vec<AtomicU64>,
+    // When the server was started. Since when each worker has had open operations, in milliseconds after
+    // that, and 1 more; 0 if it has none. And how many workers the term has.
+    start: Option<Instant>,
+    since: Vec<AtomicU64>,
+    workers: AtomicU64,
     // How many connections were closed as soon as they were accepted, and how often operations that were to
     // be set aside were not.
     refused: AtomicU64,
@@ -72,12 +79,17 @@ impl Signals for Board {
 }
 
 impl Board {
-    /// The board of a server whose first term has not begun. After `longest` operations the next term
-    /// begins; `room` is how many bytes of requests may be open.
-    pub fn shared(alloc: Global, longest: u64, room: u64) -> Result<Shared, AllocError> {
+    /// The board of a server with these options, which is started now, and whose first term has not begun.
+    pub fn shared(
+        host: &HostRuntime,
+        alloc: Global,
+        options: &ServeOptions,
+    ) -> Result<Shared, AllocError> {
         let counts = Counts::new(alloc)?;
         let places = Places::new(alloc)?;
-        let room = Room::new(alloc, room)?;
+        let room = Room::new(alloc, options.room)?;
+        let open = zeros(alloc, options.config.lanes)?;
+        let since = zeros(alloc, options.config.producers)?;
         let index = relay_progress::Counts::shared(alloc)?;
         Ok(Arc::new(
             alloc,
@@ -90,12 +102,15 @@ impl Board {
                 served: AtomicU64::new(0),
                 places,
                 room,
-                open: AtomicU64::new(0),
+                open,
+                start: Instant::now(host).ok(),
+                since,
+                workers: AtomicU64::new(0),
                 refused: AtomicU64::new(0),
                 unsaved: AtomicU64::new(0),
                 epoch: AtomicU64::new(0),
                 terms: AtomicU64::new(0),
-                longest,
+                longest: options.longest,
                 ended: AtomicU64::new(0),
                 reported: AtomicU64::new(0),
                 counts,
@@ -107,7 +122,9 @@ impl Board {
     /// A term begins, in this epoch. All operations of the one before have ended, whether its workers heard
     /// so or not.
     pub(crate) fn begin(&self, epoch: u32) {
-        self.open.store(0, Ordering::SeqCst);
+        clear(&self.open);
+        clear(&self.since);
+        self.workers.store(0, Ordering::SeqCst);
         let ends = self.counts.ends();
         self.ended.store(ends.all(), Ordering::SeqCst);
         self.reported.store(ends.reports(), Ordering::SeqCst);
@@ -156,19 +173,65 @@ impl Board {
         self.is_ending() && is_shut && self.places.taken() == 0
     }
 
-    /// An operation was put.
-    pub(crate) fn add_open(&self) {
-        self.open.fetch_add(1, Ordering::SeqCst);
+    /// An operation was put to this lane.
+    pub(crate) fn add_open(&self, lane: u32) {
+        if let Some(open) = self.open.get(lane as usize) {
+            open.fetch_add(1, Ordering::SeqCst);
+        }
     }
 
-    /// An operation that was put has ended.
-    pub(crate) fn take_open(&self) {
-        self.open.fetch_sub(1, Ordering::SeqCst);
+    /// An operation that was put to this lane has ended.
+    pub(crate) fn take_open(&self, lane: u32) {
+        if let Some(open) = self.open.get(lane as usize) {
+            open.fetch_sub(1, Ordering::SeqCst);
+        }
     }
 
-    /// How many operations were put and have not ended, as far as workers know.
-    pub(crate) fn open(&self) -> u64 {
-        self.open.load(Ordering::SeqCst)
+    /// How many operations were put to the lane with this number, from 0, and have not ended, as far as
+    /// workers know. `None`: there is no such lane.
+    pub(crate) fn open(&self, lane: usize) -> Option<u64> {
+        Some(self.open.get(lane)?.load(Ordering::SeqCst))
+    }
+
+    /// The term has one more worker. Returns its number, from 0.
+    pub(crate) fn add_worker(&self) -> usize {
+        usize::try_from(self.workers.fetch_add(1, Ordering::SeqCst)).unwrap_or(usize::MAX)
+    }
+
+    // The number of milliseconds from the start to this moment.
+    fn moment(&self, at: Option<Instant>) -> Option<u64> {
+        let since = at?.saturating_duration_since(self.start?);
+        Some(u64::try_from(since.as_millis()).unwrap_or(u64::MAX))
+    }
+
+    /// The worker with this number has open operations since then.
+    pub(crate) fn set_since(&self, worker: usize, at: Option<Instant>) {
+        if let (Some(since), Some(moment)) = (self.since.get(worker), self.moment(at)) {
+            since.store(moment.saturating_add(1), Ordering::SeqCst);
+        }
+    }
+
+    /// It has none.
+    pub(crate) fn clear_since(&self, worker: usize) {
+        if let Some(since) = self.since.get(worker) {
+            since.store(0, Ordering::SeqCst);
+        }
+    }
+
+    /// For how long the worker that has had open operations for the longest has had some, in milliseconds.
+    pub(crate) fn oldest(&self, now: Option<Instant>) -> u64 {
+        let mut first: Option<u64> = None;
+        for since in &self.since {
+            let moment = since.load(Ordering::SeqCst).checked_sub(1);
+            first = match (first, moment) {
+                (Some(one), Some(other)) => Some(one.min(other)),
+                (one, other) => one.or(other),
+            };
+        }
+        match (first, self.moment(now)) {
+            (Some(first), Some(now)) => now.saturating_sub(first),
+            _ => 0,
+        }
     }
 
     /// How many connections were closed as soon as they were accepted, since too many were open.
@@ -234,6 +297,21 @@ impl Board {
             return Some("the index does not answer");
         }
         None
+    }
+}
+
+// So many numbers, which are 0.
+fn zeros(alloc: Global, count: u32) -> Result<Vec<AtomicU64>, AllocError> {
+    let mut numbers = Vec::new(alloc);
+    for _ in 0..count {
+        numbers.push(AtomicU64::new(0))?;
+    }
+    Ok(numbers)
+}
+
+fn clear(numbers: &[AtomicU64]) {
+    for number in numbers {
+        number.store(0, Ordering::SeqCst);
     }
 }
 

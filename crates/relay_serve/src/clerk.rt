@@ -1,12 +1,12 @@
 //! What a worker writes down beside its answers: a line for each request, and operations that are set aside.
 use crate::options::ServeLog;
 use crate::saying::{say, say_line};
-use crate::stamp::stamped;
 use bytes::Bytes;
 use http::Request;
 use http_server::Response;
 use relay_action::StdStream;
 use relay_clients::Client;
+use relay_progress::add_stamp;
 use relay_words::add_number;
 use std::alloc::{AllocError, Global};
 use std::fs::File;
@@ -16,6 +16,32 @@ use std::time::{Clock, Instant};
 
 // Of a longer path its front is shown.
 const PATH_SHOWN: usize = 512;
+
+// The beginning of a line about a request: the time, and the client.
+fn begun_line<R: Clock>(
+    rt: &R,
+    alloc: Global,
+    peer: Option<SocketAddr>,
+) -> Result<Vec<u8>, AllocError> {
+    let mut text = Vec::new(alloc);
+    add_stamp(rt, alloc, &mut text)?;
+    match peer {
+        Some(peer) => text.extend_from_slice(peer.to_string(alloc)?.as_bytes())?,
+        None => text.push(b'-')?,
+    }
+    text.push(b' ')?;
+    Ok(text)
+}
+
+// Its end: the status, the bytes of the body and of the answer, and the milliseconds.
+fn end_line(text: &mut Vec<u8>, numbers: [u64; 4]) -> Result<(), AllocError> {
+    for number in numbers {
+        text.push(b' ')?;
+        add_number(text, number)?;
+    }
+    text.push(b'\n')?;
+    Ok(())
+}
 
 /// Writes down things beside a worker's answers, and knows whom the worker serves.
 #[derive(Drop)]
@@ -56,7 +82,8 @@ impl Clerk {
     /// Says that operations are not in the file.
     pub(crate) fn say_unsaved<R: Clock>(&self, rt: &R) {
         let mut err = StdStream::new(self.host.stderr());
-        if let Ok(stamp) = stamped(rt, self.alloc) {
+        let mut stamp = Vec::new(self.alloc);
+        if add_stamp(rt, self.alloc, &mut stamp).is_ok() {
             say(&mut err, stamp.as_slice());
         }
         say_line(&mut err, "report: operations were not saved");
@@ -71,12 +98,7 @@ impl Clerk {
         request: &Request<Bytes>,
         response: &Response,
     ) -> Result<Vec<u8>, AllocError> {
-        let mut text = stamped(rt, self.alloc)?;
-        match self.peer {
-            Some(peer) => text.extend_from_slice(peer.to_string(self.alloc)?.as_bytes())?,
-            None => text.push(b'-')?,
-        }
-        text.push(b' ')?;
+        let mut text = begun_line(rt, self.alloc, self.peer)?;
         text.extend_from_slice(request.method().as_str().as_bytes())?;
         text.push(b' ')?;
         let path = request.uri().path();
@@ -85,17 +107,15 @@ impl Clerk {
             Some(start) => start.elapsed(rt).map_or(0, |spent| spent.as_millis()),
             None => 0,
         };
-        let numbers = [
-            u64::from(response.status.as_u16()),
-            request.body().len() as u64,
-            response.body.len() as u64,
-            u64::try_from(took).unwrap_or(u64::MAX),
-        ];
-        for number in numbers {
-            text.push(b' ')?;
-            add_number(&mut text, number)?;
-        }
-        text.push(b'\n')?;
+        end_line(
+            &mut text,
+            [
+                u64::from(response.status.as_u16()),
+                request.body().len() as u64,
+                response.body.len() as u64,
+                u64::try_from(took).unwrap_or(u64::MAX),
+            ],
+        )?;
         Ok(text)
     }
 

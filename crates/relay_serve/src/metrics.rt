@@ -1,8 +1,10 @@
 //! What a server counts, in the text format of Prometheus, version 0.0.4.
 use crate::board::Board;
 use crate::counts::BOUNDS;
+use relay_progress::{HIGHEST_STATUS, LOWEST_STATUS};
 use relay_words::add_number;
 use std::alloc::{AllocError, Global};
+use std::time::Instant;
 
 // The lines in front of a metric.
 fn add_heading(text: &mut Vec<u8>, name: &str, kind: &str, help: &str) -> Result<(), AllocError> {
@@ -105,6 +107,60 @@ fn add_times(text: &mut Vec<u8>, board: &Board) -> Result<(), AllocError> {
     add_value(text, "relay_request_seconds_count", count)
 }
 
+// A metric with a number as its label, without its end.
+fn add_labelled(text: &mut Vec<u8>, begun: &str, label: u64, value: u64) -> Result<(), AllocError> {
+    text.extend_from_slice(begun.as_bytes())?;
+    add_number(text, label)?;
+    add_value(text, "\"}", value)
+}
+
+// How often the index answered with each status that it answered with, and with 200.
+fn add_answers(text: &mut Vec<u8>, board: &Board) -> Result<(), AllocError> {
+    add_heading(
+        text,
+        "relay_index_answers_total",
+        "counter",
+        "Requests that the index answered, by the status of the answer.",
+    )?;
+    for status in LOWEST_STATUS..=HIGHEST_STATUS {
+        let count = board.index.answered_with(status);
+        if count > 0 || status == 200 {
+            add_labelled(
+                text,
+                "relay_index_answers_total{status=\"",
+                u64::from(status),
+                count,
+            )?;
+        }
+    }
+    Ok(())
+}
+
+// How many operations are open, and for how long.
+fn add_open(text: &mut Vec<u8>, board: &Board, now: Option<Instant>) -> Result<(), AllocError> {
+    add_heading(
+        text,
+        "relay_open_operations",
+        "gauge",
+        "Operations that were put to each lane and, as far as workers have heard, have not ended.",
+    )?;
+    for lane in 0..8usize {
+        if let Some(count) = board.open(lane) {
+            add_labelled(text, "relay_open_operations{lane=\"", lane as u64, count)?;
+        }
+    }
+    add_heading(
+        text,
+        "relay_oldest_open_seconds",
+        "gauge",
+        "For how long a worker has had open operations without a break, at most.",
+    )?;
+    text.extend_from_slice(b"relay_oldest_open_seconds ")?;
+    add_seconds(text, board.oldest(now))?;
+    text.push(b'\n')?;
+    Ok(())
+}
+
 // What is known of the index.
 fn add_index(text: &mut Vec<u8>, board: &Board) -> Result<(), AllocError> {
     let index = &board.index;
@@ -122,13 +178,7 @@ fn add_index(text: &mut Vec<u8>, board: &Board) -> Result<(), AllocError> {
         "Requests to the index.",
         index.requests(),
     )?;
-    add_single(
-        text,
-        "relay_index_answers_total",
-        "counter",
-        "Requests that the index answered, with whatever status.",
-        index.answers(),
-    )?;
+    add_answers(text, board)?;
     add_single(
         text,
         "relay_index_operations_total",
@@ -156,13 +206,6 @@ fn add_requests(text: &mut Vec<u8>, board: &Board) -> Result<(), AllocError> {
     )?;
     add_single(
         text,
-        "relay_open_operations",
-        "gauge",
-        "Operations that were put and, as far as workers have heard, have not ended.",
-        board.open(),
-    )?;
-    add_single(
-        text,
         "relay_open_bytes",
         "gauge",
         "Bytes of requests that were read and not yet answered, beyond the first 16384 of each.",
@@ -184,8 +227,12 @@ fn add_requests(text: &mut Vec<u8>, board: &Board) -> Result<(), AllocError> {
     )
 }
 
-/// The metrics. `AllocError`: allocation failed.
-pub(crate) fn metrics_text(alloc: Global, board: &Board) -> Result<Vec<u8>, AllocError> {
+/// The metrics at this moment. `AllocError`: allocation failed.
+pub(crate) fn metrics_text(
+    alloc: Global,
+    board: &Board,
+    now: Option<Instant>,
+) -> Result<Vec<u8>, AllocError> {
     let mut text = Vec::new(alloc);
     add_ends(&mut text, board)?;
     add_times(&mut text, board)?;
@@ -206,6 +253,7 @@ pub(crate) fn metrics_text(alloc: Global, board: &Board) -> Result<Vec<u8>, Allo
         "relay_connections{state=\"served\"}",
         board.served(),
     )?;
+    add_open(&mut text, board, now)?;
     add_requests(&mut text, board)?;
     add_single(
         &mut text,

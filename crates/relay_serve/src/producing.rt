@@ -36,26 +36,30 @@ impl<'a, R: Wait + Clock> Settle for Producing<'a, R> {
 
     fn settle(&mut self, writes: Vec<(DocKey, Action)>) -> Result<Settled, AllocError> {
         let settled = self.settler.settle(self.rt, writes)?;
-        self.settler.shared.counts.add(&settled);
-        self.settler.shared.turn_if_due();
+        self.settler.tally.shared.counts.add(&settled);
+        self.settler.tally.shared.turn_if_due();
         Ok(settled)
     }
 
     fn is_ending(&self) -> bool {
-        self.settler.shared.is_ending()
+        self.settler.tally.shared.is_ending()
     }
 
     fn trouble(&self) -> Option<&'static str> {
-        self.settler.shared.trouble()
+        self.settler.tally.shared.trouble()
     }
 
     fn metrics(&self, alloc: Global) -> Result<Vec<u8>, AllocError> {
-        metrics_text(alloc, &self.settler.shared)
+        metrics_text(
+            alloc,
+            &self.settler.tally.shared,
+            Instant::now(self.rt).ok(),
+        )
     }
 
     fn stop(&self) -> bool {
         if self.clerk.is_local {
-            self.settler.shared.end();
+            self.settler.tally.shared.end();
         }
         self.clerk.is_local
     }
@@ -66,7 +70,7 @@ impl<'a, R: Wait + Clock> Settle for Producing<'a, R> {
 
     fn set_aside(&self, lines: Option<Vec<u8>>) {
         if !self.clerk.save(lines) {
-            self.settler.shared.add_unsaved();
+            self.settler.tally.shared.add_unsaved();
             self.clerk.say_unsaved(self.rt);
         }
     }

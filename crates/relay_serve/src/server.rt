@@ -28,15 +28,10 @@ use std::thread;
 use std::thread::{JoinHandle, Threads};
 use std::time::Clock;
 
-// Says where it listens, and in which epoch it works: a line for each entrance.
-fn say_begun<E: ByteOut>(
-    alloc: Global,
-    entrances: &[Entrance],
-    epoch: u32,
-    err: &mut E,
-) -> Result<(), AllocError> {
+// Where it listens, and in which epoch it works: a line for each entrance.
+fn begun_text(alloc: Global, entrances: &[Entrance], epoch: u32) -> Result<Vec<u8>, AllocError> {
+    let mut text = Vec::new(alloc);
     for entrance in entrances {
-        let mut text = Vec::new(alloc);
         text.extend_from_slice(b"listening on ")?;
         if let Some(address) = entrance.address() {
             text.extend_from_slice(address.to_string(alloc)?.as_bytes())?;
@@ -44,9 +39,8 @@ fn say_begun<E: ByteOut>(
         text.extend_from_slice(b", epoch ")?;
         add_number(&mut text, u64::from(epoch))?;
         text.push(b'\n')?;
-        say(err, text.as_slice());
     }
-    Ok(())
+    Ok(text)
 }
 
 fn say_stopped<E: ByteOut>(stopped: Stopped, err: &mut E) -> Exit {
@@ -139,7 +133,7 @@ fn prepare(
     entrances: Vec<Entrance>,
     report: Option<File>,
 ) -> Result<Prepared, Stopped> {
-    let shared = Board::shared(alloc, options.longest, options.room)?;
+    let shared = Board::shared(host, alloc, options)?;
     let Ok(keys) = RandomState::new(host) else {
         return Err(Stopped::Random);
     };
@@ -235,9 +229,12 @@ where
     requires host { IsTrue (is_host (string_bytes options.now.to)) }
     requires floor { epochs.old.floor ≡ first + 1 }
 {
-    say_begun(host.alloc(), &entrances, first, err)?;
+    let begun = begun_text(host.alloc(), &entrances, first)?;
     match prepare(host, host.alloc(), options, entrances, report) {
-        Ok(prepared) => serve_prepared(rt, host, options, prepared, first, epochs, out, err),
+        Ok(prepared) => {
+            say(err, begun.as_slice());
+            serve_prepared(rt, host, options, prepared, first, epochs, out, err)
+        }
         Err(stopped) => Ok(say_stopped(stopped, err)),
     }
 }

@@ -9,7 +9,7 @@ ghost use Rattle.relay_serve.specs.Putting.{Hears, Tries, Becomes, PutsSome, is_
 ghost use Rattle.relay_serve.specs.Settling.{Stays, Settles, Event, WasHeard};
 
 use crate::batch::{Batch, end_of, finish_ends};
-use crate::board::Shared;
+use crate::tally::Tally;
 use crate::timing::Timer;
 use relay_action::{Action, DocKey};
 use relay_front::{End, Settled};
@@ -26,7 +26,7 @@ use std::time::{Clock, Instant};
 pub(crate) struct Settler {
     pub(crate) alloc: Global,
     pub(crate) producer: WindowedProducer<Ending>,
-    pub(crate) shared: Shared,
+    pub(crate) tally: Tally,
     /// How long a request may take, in milliseconds.
     pub(crate) within: u64,
 }
@@ -40,7 +40,7 @@ enum Put {
 }
 
 // Notes what a notice says. One that says that its lane tells no more ends the server.
-fn note(shared: &Shared, batch: &mut Batch, notice: Notice<Ending>)
+fn note(tally: &mut Tally, batch: &mut Batch, notice: Notice<Ending>)
     ensures keeps { KeepsPlaces batch.old batch.new }
     ensures noted { (lanes number : ℕ) → (events : List Event) → FitsFrom lanes number events batch.old
         → FitsFrom lanes number (events ++ WasHeard notice ∷ []) batch.new }
@@ -49,11 +49,11 @@ fn note(shared: &Shared, batch: &mut Batch, notice: Notice<Ending>)
     match told {
         Some(ending) => {
             let (number, end) = end_of(ending);
-            shared.take_open();
+            tally.end(lane);
             batch.note(number, end);
         }
         None => {
-            shared.fail();
+            tally.shared.fail();
             batch.lose(lane);
         }
     }
@@ -84,7 +84,7 @@ impl Settler {
         match self.producer.take_within(rt, timer.left(rt)) {
             Ok(notice) => notice,
             Err(_) => {
-                self.shared.fail();
+                self.tally.shared.fail();
                 None
             }
         }
@@ -99,7 +99,7 @@ impl Settler {
     {
         match self.next_notice(rt, timer) {
             Some(notice) => {
-                note(&self.shared, batch, notice);
+                note(&mut self.tally, batch, notice);
                 true
             }
             None => false,
@@ -138,7 +138,7 @@ impl Settler {
         'tries: for _ in rt.forever() {
             let fault = match self.try_put(rt, key, action) {
                 Ok(receipt) => {
-                    self.shared.add_open();
+                    self.tally.put(receipt.lane, timer);
                     return Put::Done(receipt);
                 }
                 Err(fault) => fault,
@@ -149,7 +149,7 @@ impl Settler {
                 action: left,
             } = fault;
             if is_final(kind) {
-                self.shared.fail();
+                self.tally.shared.fail();
                 return Put::Gone;
             }
             if !self.hear(rt, batch, timer) {
@@ -242,7 +242,7 @@ impl Settler {
         let Settler {
             alloc: _,
             producer,
-            shared: _,
+            tally: _,
             within: _,
         } = self;
         producer.close(rt)

@@ -1,5 +1,5 @@
 //! The config, the wires and the paces of the lanes of a server.
-ghost use Rattle.std.specs.Prelude.{◌≡◌, ◌<◌, ◌≤◌, [], IfOk, IsTrue, vec_len};
+ghost use Rattle.std.specs.Prelude.{◌≡◌, ◌*◌, ◌<◌, ◌≤◌, [], IfOk, IsTrue, vec_len};
 ghost use Rattle.relay_http.specs.WrittenRequest.{is_host};
 ghost use Rattle.relay_threads.specs.Relay.{NoneOut};
 ghost use Rattle.relay_wires.specs.Numbers.{numbers};
@@ -29,10 +29,11 @@ type SocketWire = HttpWire<TimedStream<TcpStream, HostRuntime>, ServeDial, Unkno
 /// One that is counted.
 pub(crate) type TcpWire = CountedWire<SocketWire>;
 
-/// The window of each of so many workers.
+/// The window of each of so many workers. All of them together may have at most 65,000 operations open.
 pub(crate) fn window_of(workers: u32) -> u32
     ensures value { result ≡ window_of workers }
     ensures within { (0 < result) × (result ≤ 65536) }
+    ensures all { 0 < workers → workers ≤ 65000 → result * workers ≤ 65000 }
 {
     WINDOW.min(OPEN_LIMIT / workers.max(1)).max(1)
 }

@@ -10,6 +10,7 @@ use crate::options::ServeOptions;
 use crate::producing::Making;
 use crate::settler::Settler;
 use crate::stopped::Stopped;
+use crate::tally::Tally;
 use crate::worker::{Settings, Worker};
 use crossbeam_channel::{Receiver, Sender, bounded};
 use rand_pcg::Pcg64;
@@ -157,7 +158,7 @@ fn make_worker(
         settler: Settler {
             alloc,
             producer,
-            shared: board,
+            tally: Tally::new(board),
             within: options.within,
         },
         making: Making {

@@ -11,13 +11,12 @@ fn time_now<R: Clock>(rt: &R) -> Option<Timestamp> {
     Timestamp::from_second(seconds).ok()
 }
 
-/// The beginning of a line: the time in UTC, such as `2026-11-27T19:44:44Z`, and a blank, unless the clock
-/// cannot be read. `AllocError`: allocation failed.
-pub(crate) fn stamped<R: Clock>(rt: &R, alloc: Global) -> Result<Vec<u8>, AllocError> {
-    let mut text = Vec::new(alloc);
+/// Adds the time in UTC, such as `2026-11-27T19:44:44Z`, and a blank, unless the clock cannot be read.
+/// `AllocError`: allocation failed; a part of that may have been added.
+pub fn add_stamp<R: Clock>(rt: &R, alloc: Global, text: &mut Vec<u8>) -> Result<(), AllocError> {
     if let Some(time) = time_now(rt) {
         let stamp = format!(in alloc; "{time} ")?;
         text.extend_from_slice(stamp.as_bytes())?;
     }
-    Ok(text)
+    Ok(())
 }
