@@ -66,6 +66,12 @@ def check(crate, texts, kept, only, without=()):
     return ran.returncode, ran.stdout
 
 
+def free_memory():
+    """Returns the memory that is free, in bytes."""
+    with open("/proc/meminfo") as file:
+        return 1024 * int(re.search(r"MemAvailable:\s+(\d+)", file.read())[1])
+
+
 def rlib(crate):
     return os.path.join(CRATES, crate, "out", "rlib", crate + ".rlib")
 

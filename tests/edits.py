@@ -20,13 +20,12 @@ import contextlib
 import hashlib
 import itertools
 import os
-import re
 import sys
 import threading
 import time
 
 from crates import CRATES, TOP, add_file, files_below, lines_of, sum_of
-from edit_checks import Kept, check, is_ready, is_verdict
+from edit_checks import Kept, check, free_memory, is_ready, is_verdict
 from edit_files import UNREAD, Edit, Unusable, errors_of, functions_in, is_refused, text_of
 
 # Where the checksums of crates are kept whose edits were all refused.
@@ -172,9 +171,7 @@ def workers():
     """Returns how many checks to run at once: one for each processor, as many as memory holds. The kit's RT_JOBS sets another number."""
     if os.environ.get("RT_JOBS", "").isdigit():
         return int(os.environ["RT_JOBS"])
-    with open("/proc/meminfo") as file:
-        free = 1024 * int(re.search(r"MemAvailable:\s+(\d+)", file.read())[1])
-    return max(1, min(len(os.sched_getaffinity(0)), free // MEMORY))
+    return max(1, min(len(os.sched_getaffinity(0)), free_memory() // MEMORY))
 
 
 def main(names, after_gate):

@@ -4,6 +4,9 @@
 each crate: for its proof, its tests and its edits. What ends between two looks is counted up to the
 earlier one. The budget of a crate is 15 processor minutes, and 20 for the largest (`docs/CONTRIBUTING.md`).
 
+`rt ci` by itself leaves processors idle that could prove: it runs so few checks at once as its estimate of their memory says, and most
+take less than half of that. So where a processor has as much memory as the largest check was seen to take, this runs a check on each.
+
 Before `rt ci` tries the must-fail edits of a crate, it proves the crate once more, into a folder that it removes later. This
 keeps a copy, with which `edits.py` begins; without one it proves no function but those that are edited.
 
@@ -21,7 +24,7 @@ import sys
 import threading
 import time
 
-from edit_checks import SEEDS, link
+from edit_checks import SEEDS, free_memory, link
 
 TICKS = os.sysconf("SC_CLK_TCK")
 HERE = os.path.dirname(os.path.abspath(__file__))
@@ -33,6 +36,8 @@ STEPS = (
 )
 PARTS = ("proof", "tests", "edits")
 BUDGET, LARGEST = 15, 20
+# The memory of the largest check, in bytes.
+MEMORY = 5 << 30
 # How many crates have a row in what is left.
 ROWS_LEFT = 15
 LOOK, TELL = 0.5, 60
@@ -162,6 +167,13 @@ def rows_left(lines):
     return [*lines[: 2 + ROWS_LEFT], lines[-1]]
 
 
+def environment():
+    """Returns the environment of the steps: with the kit's RT_JOBS, how many checks run at once, unless memory is short or it is set."""
+    processors = len(os.sched_getaffinity(0))
+    has_room = free_memory() >= processors * MEMORY
+    return {"RT_JOBS": str(processors), **os.environ} if has_room else os.environ
+
+
 def leave(lines):
     os.makedirs(os.path.dirname(LEFT), exist_ok=True)
     with open(LEFT, "w") as file:
@@ -191,7 +203,7 @@ def main():
     watch.start()
     for what, words, told in STEPS:
         print(what, flush=True)
-        step = subprocess.Popen(words, stdout=subprocess.PIPE, stderr=subprocess.STDOUT, text=True, errors="replace")
+        step = subprocess.Popen(words, env=environment(), stdout=subprocess.PIPE, stderr=subprocess.STDOUT, text=True, errors="replace")
         said = list(pass_on(step.stdout))
         status = step.wait()
         if status:

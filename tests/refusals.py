@@ -28,7 +28,10 @@ REFUSED = b"REFUSED\n"
 # What test crates share. Its calls need no tests of their own: the tests that use it make them.
 FIXTURES = "relay_fixtures"
 # Public calls that allocate and do not report a refusal.
-SILENT = {"relay_progress": ["show_progress"]}
+SILENT = {
+    "relay_keeping": ["InputTelling::read", "InputTelling::put", "InputTelling::flush", "LaneTelling::applied", "LaneTelling::reported", "MarkKeeper::try_follow", "MarkKeeper::follow_within"],
+    "relay_progress": ["show_progress"],
+}
 # A test should make only a few calls, so it has fewer allocations than this; one run takes a few milliseconds.
 MOST, SECONDS = 20_000, 10
 FAULTS = []
@@ -120,18 +123,20 @@ def words_of(text):
 
 
 def calls_that_allocate(crate, refusals):
-    """Returns the public calls of a library whose result reports a refusal, each with whether it is called on a value.
+    """Returns the public calls of a library whose result reports a refusal, and those that do not report it, each with whether it is
+    called on a value.
 
     A function that only converts a fault, such as to its exit status, is not one of them.
     """
     modules, names = public_names(crate)
-    found = {it: False for it in SILENT.get(crate, ())}
+    found = {}
     for module, source in modules_of(crate).items():
         for owner, name, arguments, result in functions_of(source):
+            call = "%s::%s" % (owner, name) if owner else name
             is_public = module.split("::")[0] in modules or (owner or name) in names
             makes_one = "Result<" in result or not refusals & words_of(arguments)
-            if is_public and refusals & words_of(result) and makes_one:
-                found["%s::%s" % (owner, name) if owner else name] = bool(re.match(r"\(\s*(&(mut )?|mut )?self\b", arguments))
+            if is_public and (call in SILENT.get(crate, ()) or refusals & words_of(result) and makes_one):
+                found[call] = bool(re.match(r"\(\s*(&(mut )?|mut )?self\b", arguments))
     return found
 
 

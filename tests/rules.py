@@ -129,6 +129,7 @@ HOMES = {
         "private: the texts of the inputs": CODE,
         "private: the state in a JSON value": CODE,
     }),
+    "relay_common": (RUN, {"an epoch from the counter": EPOCHS}),
     "relay_run": (RUN, {"the epoch of a run": EPOCHS}),
     "relay_scenario": (SCRIPT, {"which lines are taken": WORLD, "which calls failed": WORLD, "exit statuses": WORLD}),
     "relay_serve": (SERVE, {
@@ -143,6 +144,11 @@ HOMES = {
         "reading a number": (APPLY, SCRIPT),
         "exit statuses": (LINES, RUN),
         "the operations taken": (LINES, RUN),
+    }),
+    "relay_keeping": (RESUME, {
+        "the ends of a new channel": CODE,
+        "private: the trails of all inputs": CODE,
+        "private: the ends that are met": CODE,
     }),
     "relay_receipts": (RUN, {}),
     "relay_telling": (RUN, {}),

@@ -1,5 +1,5 @@
 -- The lines of an input, and where they end.
-use Rattle.std.proofs.Common.{◌≡◌, ℕ, zero, suc, Bool, true, false, true≢false, ◌+◌, ◌<◌, ◌≤◌, ◌==◌, ◌^◌, List, [], ◌∷◌, ◌++◌, ◌-◌, min, length, drop, take, None, Some, subst, refl, ap, sym, ◌∙◌, arith, inl, inr, append_assoc, append-nil, length-append}
+use Rattle.std.proofs.Common.{◌≡◌, ℕ, zero, suc, true, false, true≢false, ◌+◌, ◌<◌, ◌≤◌, ◌==◌, ◌^◌, List, [], ◌∷◌, ◌++◌, ◌-◌, min, length, drop, take, None, Some, refl, ap, sym, ◌∙◌, arith, inl, inr, append_assoc, append-nil, length-append}
 use Rattle.std.proofs.lemmas.Grind.{common_steps}
 use Rattle.memchr.specs.Find.{IsFirstByte, is_byte}
 use Rattle.relay_ndjson.specs.Lines.{IsUnbroken}
@@ -68,7 +68,7 @@ open_length n (suc k) (x ∷ xs) h =
 
 -- ---- one piece
 
-unbroken_parts : (x : ℕ) (xs : List ℕ) → IsUnbroken (x ∷ xs) → ((x == 10) ≡ false) × IsUnbroken xs
+pub unbroken_parts : (x : ℕ) (xs : List ℕ) → IsUnbroken (x ∷ xs) → ((x == 10) ≡ false) × IsUnbroken xs
 unbroken_parts x xs u =
     elim (decide (x == 10)) [
       | inl t ↦ (let h : true ≡ false = rw t at u in absurd (true≢false h))

@@ -1,115 +1,152 @@
 -- Operations that are put, settled and passed.
-use Rattle.std.proofs.Common.{◌≡◌, ℕ, zero, suc, ◌+◌, ◌<◌, ◌≤◌, ◌^◌, true, false, List, [], ◌∷◌, ◌++◌, length, length-append, append_assoc, get_or, refl, sym, ap, ◌∙◌, subst, arith}
+use Rattle.std.proofs.Common.{◌≡◌, ℕ, zero, suc, ◌+◌, ◌<◌, ◌≤◌, Bool, true, false, IsTrue, List, [], ◌∷◌, ◌++◌, length, length-append, append_assoc, refl, sym, ap, ◌∙◌, subst, arith, ◌⊎◌, ⊎_elim, inl, inr}
 use Rattle.std.specs.Prelude.{slice_set}
 use Rattle.std.proofs.lemmas.Bool.{false≢true}
+use Rattle.relay_results.specs.Words.{Mem}
+use Rattle.relay_results.proofs.Lists.{Mem-left, Mem-last, Mem-push_cases}
 use Rattle.relay_resume.specs.declared.mark.Mark.{Mark}
 use Rattle.relay_resume.specs.declared.mark.Place.{Place}
-use Rattle.relay_resume.specs.declared.trail.Put.{Put}
-use Rattle.relay_resume.specs.Trails.{History, AllSettled, StartsOpen, Trailing, IsOf, after, after_one, and_put, and_settled, settle, settle_at}
-use Rattle.relay_resume.specs.Steps.{AllNamed, IsKept, Passes}
+use Rattle.relay_resume.specs.Trails.{History, AreSettled, Follows, StartsOpen, Trailing, IsOf, after, after_one, and_put, and_settled, noted_at}
+use Rattle.relay_resume.specs.Steps.{SameNoted, note_at}
 
--- ---- what is kept
+-- ---- flags
 
-pub open_put : (ps : List Put) (end : Place) → StartsOpen ps → StartsOpen (ps ++ record { end = end; settled = false } ∷ [])
-open_put [] end s = refl
-open_put (p ∷ ps) end s = s
+pub length-note : (place : ℕ) (bs : List Bool) → length (note_at place bs) ≡ length bs
+length-note place [] = refl
+length-note zero (b ∷ bs) = refl
+length-note (suc place) (b ∷ bs) = ap suc (length-note place bs)
 
-named_put : (n : ℕ) (ps : List Put) (end : Place) → AllNamed n ps → AllNamed n (ps ++ record { end = end; settled = false } ∷ [])
-named_put n [] end s = (λ t. absurd (false≢true t), tt)
-named_put n (p ∷ ps) end s = (s.0, named_put (n + 1) ps end s.1)
+-- one more flag of a number that is not settled
+pub same_more : (bs : List Bool) (place : ℕ) → noted_at place (bs ++ false ∷ []) ≡ noted_at place bs
+same_more [] zero = refl
+same_more [] (suc place) = refl
+same_more (b ∷ bs) zero = refl
+same_more (b ∷ bs) (suc place) = same_more bs place
 
-pub kept_put : (n : ℕ) (ps : List Put) (end : Place) → IsKept n ps → IsKept n (ps ++ record { end = end; settled = false } ∷ [])
-kept_put n ps end k = record { first = open_put ps end k.first; named = named_put n ps end k.named }
+-- a flag is set in its place
+pub noted_set : (place : ℕ) (bs : List Bool) → place < length bs → slice_set bs place true ≡ note_at place bs
+noted_set place [] h = absurd (omega (arith, h))
+noted_set zero (b ∷ bs) h = refl
+noted_set (suc place) (b ∷ bs) h = ap (λ rest. b ∷ rest) (noted_set place bs (omega (arith, h)))
 
-pub named_settled : (n place : ℕ) (ps : List Put) → n + place + 1 < 2 ^ 64 → AllNamed n ps → AllNamed n (settle_at place ps)
-named_settled n place [] h s = tt
-named_settled n zero (p ∷ ps) h s = (λ t. omega (arith, h), s.1)
-named_settled n (suc place) (p ∷ ps) h s = (s.0, named_settled (n + 1) place ps (omega (arith, h)) s.1)
+pub noted_there : (place : ℕ) (bs : List Bool) → place < length bs → noted_at place (note_at place bs) ≡ true
+noted_there place [] h = absurd (omega (arith, h))
+noted_there zero (b ∷ bs) h = refl
+noted_there (suc place) (b ∷ bs) h = noted_there place bs (omega (arith, h))
 
--- ---- an operation is settled in its place
+-- a number that is noted is the one that was, or was noted before
+pub noted_cases : (other place : ℕ) (bs : List Bool) → IsTrue (noted_at other (note_at place bs)) → (other ≡ place) ⊎ IsTrue (noted_at other bs)
+noted_cases other place [] t = inr t
+noted_cases zero zero (b ∷ bs) t = inl refl
+noted_cases (suc other) zero (b ∷ bs) t = inr t
+noted_cases zero (suc place) (b ∷ bs) t = inr t
+noted_cases (suc other) (suc place) (b ∷ bs) t = ⊎_elim (λ e. inl (ap suc e)) (λ s. inr s) (noted_cases other place bs t)
 
-pub settled_set : (place : ℕ) (ps : List Put) (p : Put) → place < length ps → p ≡ get_or ps place p → slice_set ps place (record p { settled = true }) ≡ settle_at place ps
-settled_set place [] p h e = absurd (omega (arith, h))
-settled_set zero (q ∷ ps) p h e = ap (λ (r : Put). record r { settled = true } ∷ ps) e
-settled_set (suc place) (q ∷ ps) p h e = ap (λ rest. q ∷ rest) (settled_set place ps p (omega (arith, h)) e)
-
-pub settled_none : (place : ℕ) (ps : List Put) → length ps ≤ place → ps ≡ settle_at place ps
-settled_none place [] h = refl
-settled_none zero (p ∷ ps) h = absurd (omega (arith, h))
-settled_none (suc place) (p ∷ ps) h = ap (λ rest. p ∷ rest) (settled_none place ps (omega (arith, h)))
+pub still_noted : (other place : ℕ) (bs : List Bool) → IsTrue (noted_at other bs) → IsTrue (noted_at other (note_at place bs))
+still_noted other place [] t = t
+still_noted zero zero (b ∷ bs) t = refl
+still_noted (suc other) zero (b ∷ bs) t = t
+still_noted zero (suc place) (b ∷ bs) t = t
+still_noted (suc other) (suc place) (b ∷ bs) t = still_noted other place bs t
 
 -- ---- the mark passes settled operations
 
-pub all_settled_append : (ps qs : List Put) → AllSettled ps → AllSettled qs → AllSettled (ps ++ qs)
-all_settled_append [] qs s t = t
-all_settled_append (p ∷ ps) qs s t = (s.0, all_settled_append ps qs s.1 t)
-
-pub after_append : (ps qs : List Put) (m : Mark) → after m (ps ++ qs) ≡ after (after m ps) qs
+after_append : (ps qs : List Place) (m : Mark) → after m (ps ++ qs) ≡ after (after m ps) qs
 after_append [] qs m = refl
 after_append (p ∷ ps) qs m = after_append ps qs (after_one m p)
 
+less_or : (k c : ℕ) → (k < c) ⊎ (c ≤ k)
+less_or zero zero = inr (omega arith)
+less_or zero (suc c) = inl (omega arith)
+less_or (suc k) zero = inr (omega arith)
+less_or (suc k) (suc c) = ⊎_elim (λ x. inl (omega (arith, x))) (λ x. inr (omega (arith, x))) (less_or k c)
+
+-- one more is settled than these
+settled_more : (c : ℕ) (settled : List ℕ) → AreSettled c settled → Mem (c + 1) settled → AreSettled (c + 1) settled
+settled_more c settled s m k l =
+    ⊎_elim (λ below. s k below) (λ over. subst (λ j. Mem (j + 1) settled) (let r : c ≡ k = omega (arith, l, over) in r) m) (less_or k c)
+
 -- one more
-pub passes_one : (m m' : Mark) (n n' : ℕ) (ps mid ps' : List Put) (end : Place) → Passes m m' n n' ps mid → mid ≡ record { end = end; settled = true } ∷ ps'
-    → Passes m (after m' (record { end = end; settled = true } ∷ [])) n (n' + 1) ps ps'
-passes_one m m' n n' ps mid ps' end s e =
-    let one : List Put = record { end = end; settled = true } ∷ [] in
+pub follow_one : (h : History) (m : Mark) (n : ℕ) (ps qs : List Place) (bs cs : List Bool) (end : Place)
+    → ps ≡ end ∷ qs → bs ≡ true ∷ cs
+    → Follows h (record { mark = m; passed = n; ends = ps; noted = bs })
+    → Follows h (record { mark = after_one m end; passed = n + 1; ends = qs; noted = cs })
+follow_one h m n ps qs bs cs end e b f =
+    let len = length-append f.done (end ∷ []) in
+    let c = f.passed in
+    let first : Mem (n + 0 + 1) h.settled = f.noted 0 (subst (λ l. IsTrue (noted_at 0 l)) (sym b) refl) in
+    let more : AreSettled (length f.done + 1) h.settled = settled_more (length f.done) h.settled f.settled (subst (λ j. Mem j h.settled) (let r : n + 0 + 1 ≡ length f.done + 1 = omega (arith, c) in r) first) in
     record {
-      done = s.done ++ one;
-      puts = s.puts ∙ ap (λ rest. s.done ++ rest) e ∙ sym (append_assoc s.done one ps');
-      settled = all_settled_append s.done one s.settled (refl, tt);
-      passed = (let c = s.passed in let l = length-append s.done one in omega (arith, c, l));
-      mark = ap (λ k. after k one) s.mark ∙ sym (after_append s.done one m);
+      done = f.done ++ end ∷ [];
+      puts = f.puts ∙ ap (λ l. f.done ++ l) e ∙ sym (append_assoc f.done (end ∷ []) qs);
+      passed = omega (arith, len, c);
+      settled = subst (λ j. AreSettled j h.settled) (let r : length f.done + 1 ≡ length (f.done ++ end ∷ []) = omega (arith, len) in r) more;
+      noted = λ place t. subst (λ k. Mem k h.settled) (let r : n + suc place + 1 ≡ n + 1 + place + 1 = omega arith in r) (f.noted (suc place) (subst (λ l. IsTrue (noted_at (suc place) l)) (sym b) t));
+      all = λ place s. subst (λ l. IsTrue (noted_at (suc place) l)) b (f.all (suc place) (subst (λ k. Mem k h.settled) (let r : n + 1 + place + 1 ≡ n + suc place + 1 = omega arith in r) s));
+      mark = ap (λ k. after_one k end) f.mark ∙ sym (after_append f.done (end ∷ []) h.start);
     }
 
 -- ---- what the trail of a history is
 
-pub put_on : (end : Place) (h : History) (t t' : Trailing) → t' ≡ record t { ahead = t.ahead ++ record { end = end; settled = false } ∷ [] } → IsOf h t → IsOf (and_put end h) t'
-put_on end h t t' e s = subst (λ (o : Trailing). IsOf (and_put end h) o) (sym e) (record {
-  done = s.done;
-  puts = ap (λ ps. ps ++ record { end = end; settled = false } ∷ []) s.puts ∙ append_assoc s.done t.ahead _;
-  settled = s.settled;
-  stops = open_put t.ahead end s.stops;
-  passed = s.passed;
-  mark = s.mark;
-})
+pub follow_begun : (start : Mark) → Follows (record { start = start; puts = []; settled = [] }) (record { mark = start; passed = 0; ends = []; noted = [] })
+follow_begun start = record {
+  done = [];
+  puts = refl;
+  passed = refl;
+  settled = λ n l. absurd (omega (arith, l));
+  noted = λ place t. absurd (false≢true t);
+  all = λ place s. absurd s;
+  mark = refl;
+}
 
--- an operation that is passed is settled already
-settled_before : (place : ℕ) (done rest : List Put) → AllSettled done → place < length done → settle_at place (done ++ rest) ≡ done ++ rest
-settled_before place [] rest s h = absurd (omega (arith, h))
-settled_before zero (p ∷ done) rest s h = ap (λ b. record p { settled = b } ∷ done ++ rest) (sym s.0)
-settled_before (suc place) (p ∷ done) rest s h = ap (λ ps. p ∷ ps) (settled_before place done rest s.1 (omega (arith, h)))
+pub follow_put : (end : Place) (h : History) (t : Trailing) → Follows h t → Follows (and_put end h) (record t { ends = t.ends ++ end ∷ [] })
+follow_put end h t f = record {
+  done = f.done;
+  puts = ap (λ ps. ps ++ end ∷ []) f.puts ∙ append_assoc f.done t.ends (end ∷ []);
+  passed = f.passed;
+  settled = f.settled;
+  noted = f.noted;
+  all = f.all;
+  mark = f.mark;
+}
 
-before_mark : (n : ℕ) (done rest : List Put) → AllSettled done → n ≤ length done → settle n (done ++ rest) ≡ done ++ rest
-before_mark zero done rest s h = refl
-before_mark (suc place) done rest s h = settled_before place done rest s (omega (arith, h))
+-- other flags of the same numbers
+pub follow_same : (h : History) (t : Trailing) (bs : List Bool) → SameNoted t.noted bs → Follows h t → Follows h (record t { noted = bs })
+follow_same h t bs same f = record {
+  done = f.done;
+  puts = f.puts;
+  passed = f.passed;
+  settled = f.settled;
+  noted = λ place b. f.noted place (sym (same place) ∙ b);
+  all = λ place s. same place ∙ f.all place s;
+  mark = f.mark;
+}
 
-pub settle_passed : (n : ℕ) (h : History) (t t' : Trailing) → t' ≡ t → n ≤ t.passed → IsOf h t → IsOf (and_settled n h) t'
-settle_passed n h t t' e l s = subst (λ (o : Trailing). IsOf (and_settled n h) o) (sym e) (record {
-  done = s.done;
-  puts = ap (settle n) s.puts ∙ before_mark n s.done t.ahead s.settled (let c = s.passed in omega (arith, c, l));
-  settled = s.settled;
-  stops = s.stops;
-  passed = s.passed;
-  mark = s.mark;
-})
+pub open_same : (ps : List Place) (bs cs : List Bool) → SameNoted bs cs → StartsOpen ps bs → StartsOpen ps cs
+open_same [] bs cs same s = tt
+open_same (p ∷ ps) bs cs same s = same 0 ∙ s
 
--- an operation that is not passed is settled in its place
-settled_after : (place : ℕ) (done rest : List Put) → settle_at (length done + place) (done ++ rest) ≡ done ++ settle_at place rest
-settled_after place [] rest = ap (λ k. settle_at k rest) (omega arith)
-settled_after place (p ∷ done) rest =
-    let e : length (p ∷ done) + place ≡ suc (length done + place) = omega arith in
-    ap (λ k. settle_at k (p ∷ done ++ rest)) e ∙ ap (λ ps. p ∷ ps) (settled_after place done rest)
+-- a number before the mark is settled already
+pub follow_passed : (n : ℕ) (h : History) (t : Trailing) → n ≤ t.passed → Follows h t → Follows (and_settled n h) t
+follow_passed n h t l f = record {
+  done = f.done;
+  puts = f.puts;
+  passed = f.passed;
+  settled = λ k b. Mem-left (k + 1) h.settled (n ∷ []) (f.settled k b);
+  noted = λ place b. Mem-left (t.passed + place + 1) h.settled (n ∷ []) (f.noted place b);
+  all = λ place s. ⊎_elim (λ m. f.all place m) (λ e. absurd (omega (arith, l, e))) (Mem-push_cases (t.passed + place + 1) h.settled n s);
+  mark = f.mark;
+}
 
-after_mark : (n place : ℕ) (done rest : List Put) → n ≡ suc (length done + place) → settle n (done ++ rest) ≡ done ++ settle_at place rest
-after_mark n place done rest e = ap (λ k. settle k (done ++ rest)) e ∙ settled_after place done rest
-
-pub settle_kept : (n place : ℕ) (h : History) (t t' : Trailing) → n ≡ t.passed + place + 1 → Passes t.mark t'.mark t.passed t'.passed (settle_at place t.ahead) t'.ahead → StartsOpen t'.ahead
-    → IsOf h t → IsOf (and_settled n h) t'
-settle_kept n place h t t' e p o s = record {
-  done = s.done ++ p.done;
-  puts = ap (settle n) s.puts ∙ after_mark n place s.done t.ahead (let c = s.passed in omega (arith, c, e)) ∙ ap (λ ps. s.done ++ ps) p.puts ∙ sym (append_assoc s.done p.done t'.ahead);
-  settled = all_settled_append s.done p.done s.settled p.settled;
-  stops = o;
-  passed = (let c = s.passed in let d = p.passed in let l = length-append s.done p.done in omega (arith, c, d, l));
-  mark = p.mark ∙ ap (λ m. after m p.done) s.mark ∙ sym (after_append s.done p.done h.start);
+-- a later number is noted
+pub follow_noted : (n place : ℕ) (h : History) (t : Trailing) → n ≡ t.passed + place + 1 → place < length t.noted → Follows h t → Follows (and_settled n h) (record t { noted = note_at place t.noted })
+follow_noted n place h t e l f = record {
+  done = f.done;
+  puts = f.puts;
+  passed = f.passed;
+  settled = λ k b. Mem-left (k + 1) h.settled (n ∷ []) (f.settled k b);
+  noted = λ other b. ⊎_elim (λ same. subst (λ k. Mem k (h.settled ++ n ∷ [])) (e ∙ ap (λ k. t.passed + k + 1) (sym same)) (Mem-last h.settled n)) (λ before. Mem-left (t.passed + other + 1) h.settled (n ∷ []) (f.noted other before)) (noted_cases other place t.noted b);
+  all = λ other s.
+      ⊎_elim (λ m. still_noted other place t.noted (f.all other m)) (λ same. subst (λ k. IsTrue (noted_at k (note_at place t.noted))) (let r : place ≡ other = omega (arith, e, same) in r) (noted_there place t.noted l)) (Mem-push_cases (t.passed + other + 1) h.settled n s);
+  mark = f.mark;
 }

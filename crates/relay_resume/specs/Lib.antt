@@ -8,5 +8,7 @@ pub mod Finding
 pub mod Reading
 pub mod Inputs
 pub mod Lines
+pub mod Contents
+pub mod GoingOn
 pub mod Courses
 pub mod Ending

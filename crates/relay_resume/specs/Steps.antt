@@ -1,34 +1,37 @@
 -- For the steps of a trail: what it keeps, and how the mark moves.
-use Rattle.std.specs.Prelude.{◌≡◌, ℕ, ◌+◌, ◌<◌, ◌^◌, Bool, true, false, IsTrue, List, [], ◌∷◌, ◌++◌, length, Option, None, Some}
+use Rattle.std.specs.Prelude.{◌≡◌, ℕ, zero, suc, ◌+◌, ◌<◌, ◌^◌, Bool, true, false, List, [], ◌∷◌, length, Option, None, Some}
 use Rattle.relay_resume.specs.declared.mark.Mark.{Mark}
 use Rattle.relay_resume.specs.declared.mark.Place.{Place}
-use Rattle.relay_resume.specs.declared.trail.Put.{Put}
-use Rattle.relay_resume.specs.Trails.{AllSettled, after}
-pub use Rattle.relay_resume.specs.Trails.{StartsOpen, settle_at}
+use Rattle.relay_resume.specs.Trails.{History, Follows, StartsOpen, Trailing}
+pub use Rattle.relay_resume.specs.Trails.{noted_at}
 
-abbrev pub starts_settled : List Put → Bool
-starts_settled [] = false
-starts_settled (p ∷ ps) = p.settled
+-- whether there is an operation, and the first one is settled
+abbrev pub starts_settled : List Place → List Bool → Bool
+starts_settled [] noted = false
+starts_settled (p ∷ ps) noted = noted_at 0 noted
 
--- each settled operation has a number, from the one after `n` on
-abbrev pub AllNamed : ℕ → List Put → Type 0
-AllNamed n [] = Unit {0}
-AllNamed n (p ∷ ps) = (IsTrue p.settled → n + 1 < 2 ^ 64) × AllNamed (n + 1) ps
+-- what a trail keeps after the operations that it passed: each later number has 64 bits
+pub record IsKept (passed : ℕ) (ends : List Place) (noted : List Bool) : Type 0 where
+  pub first : StartsOpen ends noted
+  pub within : passed + length noted < 2 ^ 64
 
--- the operations that a trail keeps after those that it passed
-pub record IsKept (passed : ℕ) (ahead : List Put) : Type 0 where
-  pub first : StartsOpen ahead
-  pub named : AllNamed passed ahead
+-- the same numbers are noted as settled
+abbrev pub SameNoted : List Bool → List Bool → Type 0
+SameNoted old new = (place : ℕ) → noted_at place new ≡ noted_at place old
+
+-- the number at a place is noted as settled
+abbrev pub note_at : ℕ → List Bool → List Bool
+note_at place [] = []
+note_at zero (b ∷ bs) = true ∷ bs
+note_at (suc place) (b ∷ bs) = b ∷ note_at place bs
 
 -- the first operation, a settled one, was taken out; or there is none, or it is not settled
-abbrev pub PopsSettled : List Put → List Put → Option Place → Type 0
-PopsSettled old new (Some end) = old ≡ record { end = end; settled = true } ∷ new
-PopsSettled old new None = StartsOpen old × (new ≡ old)
+abbrev pub PopsSettled : (old new : List Place) → (noted now : List Bool) → Option Place → Type 0
+PopsSettled old new noted now (Some end) = (old ≡ end ∷ new) × (noted ≡ true ∷ now)
+PopsSettled old new noted now None = StartsOpen old noted × (new ≡ old) × (now ≡ noted)
 
--- settled operations were taken out, and the mark moved past them
-pub record Passes (m m' : Mark) (n n' : ℕ) (ps ps' : List Put) : Type 0 where
-  pub done : List Put
-  pub puts : ps ≡ done ++ ps'
-  pub settled : AllSettled done
-  pub passed : n' ≡ n + length done
-  pub mark : m' ≡ after m done
+-- each history that the parts of a trail followed is followed by the new ones
+abbrev pub KeepFollowing : (mark mark' : Mark) (passed passed' : ℕ) (ends ends' : List Place) (noted noted' : List Bool) → Type 0
+KeepFollowing mark mark' passed passed' ends ends' noted noted' =
+    (h : History) → Follows h (record { mark = mark; passed = passed; ends = ends; noted = noted })
+    → Follows h (record { mark = mark'; passed = passed'; ends = ends'; noted = noted' })

@@ -1,5 +1,5 @@
 //! An input that is read from a mark on, and how far it is settled.
-ghost use Rattle.std.specs.Prelude.{◌≡◌, ℕ, List, ◌≤◌, ◌<◌, ◌^◌, [], ◌++◌, length, OnOk};
+ghost use Rattle.std.specs.Prelude.{◌≡◌, ℕ, List, ◌≤◌, ◌<◌, ◌^◌, [], ◌++◌, length, OnOk, OnErr};
 ghost use Rattle.relay_resume.specs.Courses.{place_after};
 ghost use Rattle.relay_resume.specs.Lines.{AreOf};
 ghost use Rattle.relay_resume.specs.Trails.{History, IsMarkOf, IsOf, and_put, and_settled, begun};
@@ -75,12 +75,14 @@ impl Course {
     }
 
     /// Notes that the operation with this number, from 1, is settled, as [`Trail::settle`].
-    pub fn settle(&mut self, number: u64)
-        ensures settled { (h : History) → IsOf h self.old.trail
-            → IsOf (and_settled number h) self.new.trail }
+    pub fn settle(&mut self, number: u64) -> Result<(), AllocError>
+        ensures settled { OnOk result ((h : History) → IsOf h self.old.trail
+            → IsOf (and_settled number h) self.new.trail) }
+        ensures err { OnErr result ((h : History) → IsOf h self.old.trail
+            → IsOf h self.new.trail) }
         ensures rest { (self.new.start ≡ self.old.start) × (self.new.ends ≡ self.old.ends) }
     {
-        self.trail.settle(number);
+        self.trail.settle(number)
     }
 
     /// The place before which every operation is settled, as [`Trail::mark`].

@@ -5,7 +5,8 @@
 //!
 //! What is proved: the mark of a trail is the place after the longest run of settled operations;
 //! exactly the texts of states within their limits are read, each as the state that it was written
-//! for.
+//! for; and from the mark on an input holds exactly the operations that are not before it (`laws`,
+//! `seeking`).
 #![tactic(auto)]
 
 pub mod course;
@@ -16,6 +17,7 @@ pub mod laws;
 pub mod line_ends;
 pub mod mark;
 pub mod reading;
+pub mod seeking;
 pub mod state;
 pub mod text;
 pub mod trail;
@@ -26,6 +28,7 @@ pub use input::{Changed, Found, resumes};
 pub use line_ends::LineEnds;
 pub use mark::{Mark, Place};
 pub use reading::read_state;
+pub use seeking::seek_to;
 pub use state::{CHECKED_LIMIT, INPUT_LIMIT, InputState, LAST_EPOCH, PATH_LIMIT, State, fits};
 pub use text::write_state;
 pub use trail::Trail;

@@ -81,12 +81,12 @@ fn mark(offset: u64, line: u64, count: u64) -> Mark {
 fn marks_right(alloc: Global) -> Option<bool> {
     let mut course = three(alloc)?;
     let begun = course.mark() == START;
-    course.settle(2);
+    course.settle(2).ok()?;
     let waits = course.mark() == START;
-    course.settle(1);
+    course.settle(1).ok()?;
     let passes = course.mark() == mark(110, 7, 4);
-    course.settle(4);
-    course.settle(3);
+    course.settle(4).ok()?;
+    course.settle(3).ok()?;
     Some(begun && waits && passes && course.mark() == mark(112, 8, 5))
 }
 
@@ -118,7 +118,9 @@ pub fn settles_what_was_put(alloc: Global) -> bool {
     let mut course = Course::new(alloc, START);
     let put = follows(&mut course);
     for number in 1..21u64 {
-        course.settle(number);
+        if course.settle(number).is_err() && course.settle(number).is_err() {
+            return false;
+        }
     }
     course.mark() == mark(100 + 3 * put, 4 + put, 2 + put)
 }

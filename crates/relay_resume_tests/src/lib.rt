@@ -13,6 +13,8 @@ mod inputs;
 #[cfg(test)]
 mod refusals;
 #[cfg(test)]
+mod seeks;
+#[cfg(test)]
 mod texts;
 #[cfg(test)]
 mod trails;

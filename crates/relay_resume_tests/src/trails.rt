@@ -67,8 +67,7 @@ const ORDERS: &[[(u64, usize); 3]] = &[
 
 fn settles(trail: &mut Trail, order: &[(u64, usize)]) -> bool {
     for (number, mark) in order {
-        trail.settle(*number);
-        if !stands_at(trail, *mark) {
+        if trail.settle(*number).is_err() || !stands_at(trail, *mark) {
             return false;
         }
     }
@@ -83,11 +82,11 @@ fn each_order(rt: HostRuntime) {
     }
 }
 
-// Numbers that were not put, and those that are settled already, change nothing.
+// Numbers that were not put yet, and those that are settled already, do not move the mark.
 const OTHERS: &[(u64, usize)] = &[
     (0, 0),
     (4, 0),
-    (u64::MAX, 0),
+    (70, 0),
     (2, 0),
     (2, 0),
     (1, 2),
@@ -110,9 +109,23 @@ fn other_numbers(rt: HostRuntime) {
 fn one_at_a_time(rt: HostRuntime) {
     let mut trail = Trail::new(rt.alloc(), MARKS[0]);
     for (number, end) in [(1, ENDS[0]), (2, ENDS[1]), (3, ENDS[2])] {
-        assert!(rt; trail.put(end).is_ok());
-        trail.settle(number);
+        assert!(rt; trail.put(end).is_ok() && trail.settle(number).is_ok());
         assert!(rt; stands_at(&trail, number as usize));
+    }
+}
+
+// Operations that are put after they were settled, and the mark after each.
+const LATER: [(usize, usize); 3] = [(0, 0), (1, 2), (2, 3)];
+
+#[test]
+fn settled_before(rt: HostRuntime) {
+    let mut trail = Trail::new(rt.alloc(), MARKS[0]);
+    assert!(rt; settles(&mut trail, &[(3, 0), (2, 0)]));
+    for (place, mark) in LATER {
+        if place == 1 {
+            assert!(rt; settles(&mut trail, &[(1, 1)]));
+        }
+        assert!(rt; trail.put(ENDS[place]).is_ok() && stands_at(&trail, mark));
     }
 }
 
@@ -126,7 +139,7 @@ fn many_before(rt: HostRuntime) {
     };
     let mut trail = three(&rt, rt.alloc(), start);
     for number in [3, 2, 1] {
-        trail.settle(number);
+        assert!(rt; trail.settle(number).is_ok());
     }
     assert!(rt; trail.mark().offset == 260 && trail.mark().count == u64::MAX);
 }

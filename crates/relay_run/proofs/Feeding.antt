@@ -7,13 +7,14 @@ use Rattle.relay_ndjson.specs.Operations.{Operation}
 use Rattle.relay_ndjson.specs.Reading.{Reading, Takes}
 use Rattle.relay_words.specs.Taken.{TakesAll}
 use Rattle.relay_producer.specs.States.{ProducerState, after_put}
+use Rattle.relay_common.specs.Putting.{after_puts}
 use Rattle.relay_run.specs.declared.feed.FeedFault.{FeedFault}
 use Rattle.relay_run.specs.declared.feed.FeedFault.TheVariants as fault
 use Rattle.relay_run.specs.declared.feed.Next.{Next}
 use Rattle.relay_run.specs.declared.feed.Next.TheVariants as next
-use Rattle.relay_run.specs.Settling.{Tellings}
-use Rattle.relay_run.specs.Readers.{IsFedFrom, IsFedTelling}
-use Rattle.relay_run.specs.Feeding.{after_puts, Puts, Stops, last_line, last_lines, refused_line, with_lines, FeedsTelling, FeedsAllTelling}
+use Rattle.relay_run.specs.Settling.{Tellings, teller_of}
+use Rattle.relay_run.specs.Readers.{IsFedFrom, IsFedTelling, EndsTelling}
+use Rattle.relay_run.specs.Feeding.{Puts, Stops, last_line, last_lines, refused_line, with_lines, FeedsTelling, FeedsAllTelling}
 
 -- operations were taken of an open input, and put one after another; each was told by its last line
 pub record IsFedSoFar (old now : Reading) (before after : ProducerState) (start told : Tellings) : Type 0 where
@@ -24,7 +25,7 @@ pub record IsFedSoFar (old now : Reading) (before after : ProducerState) (start 
   pub tells : told ≡ with_lines start (last_lines old now ops taken)
 
 -- one more was taken, whose last line is one more
-takes_line : (old mid new : Reading) (ops : List Operation) (n : ℕ) (op : Operation) (t : TakesAll old mid ops) → Takes mid new n op
+pub takes_line : (old mid new : Reading) (ops : List Operation) (n : ℕ) (op : Operation) (t : TakesAll old mid ops) → Takes mid new n op
     → (u : TakesAll old new (ops ++ op ∷ [])) × (last_lines old new (ops ++ op ∷ []) u ≡ last_lines old mid ops t ++ last_line new.line op.1 ∷ [])
 takes_line old mid new [] n op t s = ((n, new, subst (λ (o : Reading). Takes o new n op) t s, refl), refl)
 takes_line old mid new (first ∷ ops) n op t s =
@@ -110,3 +111,8 @@ pub fed_of_telling : {S : Type 0} (left : S → Option (List ℕ)) (failed : S �
     → IsFedTelling left failed index reader before after told now f → (ops : List Operation) × IsFedFrom left failed index reader ops before after f
 fed_of_telling left failed index None before after told now f h = ([], (refl, h.0, h.1))
 fed_of_telling left failed index (Some reader) before after told now f h = (h.1.0.ops, (h.0, h.1.0, refl))
+
+-- it told by the same end
+pub same_teller : {S : Type 0} (left : S → Option (List ℕ)) (failed : S → ℕ) (index : Option (List ℕ)) (reader : Option S) (before : ProducerState) (told now : Tellings) (f : Option FeedFault) → EndsTelling left failed index reader before told now f → teller_of now ≡ teller_of told
+same_teller left failed index None before told now f h = ap teller_of h.1.2
+same_teller left failed index (Some reader) before told now f h = ap teller_of h.1.1.1

@@ -1,3 +1,4 @@
+pub mod Crossing
 pub mod Feeding
 pub mod Handing
 pub mod Ending
@@ -6,3 +7,7 @@ pub mod Said
 pub mod Hinting
 pub mod Savers
 pub mod Numbers
+pub mod Lines
+pub mod Writing
+pub mod Meeting
+pub mod GoingOn

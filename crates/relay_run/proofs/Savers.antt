@@ -23,11 +23,15 @@ use Rattle.relay_threads.specs.declared.summary.LaneSummary.{LaneSummary}
 use Rattle.relay_threads.specs.declared.summary.Summary.{Summary}
 use Rattle.relay_threads.specs.Told.{Told, applied_of, reports_of, AddsApplied, AddsReport}
 use Rattle.relay_threads.specs.ToldAll.{ToldLane, AllTold}
+use Rattle.relay_action.specs.declared.operation.OpName.{OpName}
+use Rattle.relay_receipts.specs.Ends.{Channel}
+use Rattle.relay_keeping.specs.declared.told.Told.{Told as KeptTold}
+use Rattle.relay_keeping.specs.Tellers.{AreNewLanes, LaneState, after_report as saved_after}
 use Rattle.relay_run.specs.declared.report_file.ReportFile.{ReportFile}
 use Rattle.relay_run.specs.ReportFile.{AreNewHandles}
 use Rattle.relay_run.specs.Numbering.{report_on}
-use Rattle.relay_run.specs.Settling.{Settled, name_of, after_report}
-use Rattle.relay_run.specs.Saving.{Saver, told_by, IsExactly, BeginsWith, GoesOn, Keeps, KeepsAll, KeepsTold, KeepsOneMore, Settles, AllGoOnFrom, AreUnwritten, AreNew, SayFailed, AllKeep, Saves, AllSave}
+use Rattle.relay_run.specs.Settling.{Seat, Settled, name_of, after_report}
+use Rattle.relay_run.specs.Saving.{Saver, told_by, IsExactly, BeginsWith, GoesOn, Keeps, KeepsAll, KeepsTold, KeepsOneMore, Settles, AllGoOnFrom, AreUntold, AreUnwritten, AreNew, SayFailed, AllKeep, Saves, AllSave, seat_of}
 
 -- ---- one report
 
@@ -90,6 +94,21 @@ settles_nothing given failures before settled new is = (
     all = λ _. refl;
   },
 )
+
+-- what a lane told after a report, part by part
+pub after_both : (failed : Bool) (name : OpName) (old new : Settled) → new.applied ≡ old.applied → new.saved ≡ saved_after failed name old.saved → new ≡ after_report failed name old
+after_both true name old new a s = λ i. record { applied = a i; saved = s i }
+after_both false name old new a s = λ i. record { applied = a i; saved = s i }
+
+-- ends by which nothing was told yet
+pub untold_lanes : (channel : Channel KeptTold) (teller : ℕ) (vs : List LaneState) → AreNewLanes channel teller vs → AreUntold vs
+untold_lanes channel teller [] all = tt
+untold_lanes channel teller (v ∷ vs) all = ((ap (λ (w : LaneState). w.applied) all.0, ap (λ (w : LaneState). w.saved) all.0), untold_lanes channel (teller + 1) vs all.1)
+
+-- one more end by which nothing was told
+pub untold_push : (vs : List LaneState) (v : LaneState) → AreUntold vs → (v.applied ≡ []) × (v.saved ≡ []) → AreUntold (vs ++ v ∷ [])
+untold_push [] v all one = (one, tt)
+untold_push (x ∷ vs) v all one = (all.0, untold_push vs v all.1 one)
 
 -- more operations were applied
 pub settles_applied : (failed : Bool) (given : Option (List ℕ)) (failures : ℕ) (before : List ℕ) (old new xs : List Success) (reported : List Report) (settled after : Settled)
@@ -237,6 +256,18 @@ module _ {W : Type 0} (describes : W → Bool) (fits : W → Outside → Type 0)
   all_save lane (w ∷ ws) (f ∷ fs) (t ∷ ts) (s ∷ ss) h new keep =
       (saves_one lane w f t s h.0 new.0.1 (keep t (inl refl)), all_save (lane + 1) ws fs ts ss h.1 new.1 (λ x m. keep x (inr m)))
 
+-- ---- the ends by which lanes tell
+
+abbrev pub destination_of : Saver → List ℕ × Seat
+destination_of s = (s.before, s.via)
+
+seats_of : (ss : List Saver) → map seat_of ss ≡ map (λ (d : List ℕ × Seat). d.1) (map destination_of ss)
+seats_of [] = refl
+seats_of (s ∷ ss) = ap (λ l. s.via ∷ l) (seats_of ss)
+
+pub seats_by : (ss ts : List Saver) → map destination_of ss ≡ map destination_of ts → map seat_of ss ≡ map seat_of ts
+seats_by ss ts same = seats_of ss ∙ (ap (map (λ (d : List ℕ × Seat). d.1)) same ∙ sym (seats_of ts))
+
 -- ---- the end of a relay
 
 module _ {W V : Type 0} (items : V → List Saver) where
@@ -254,6 +285,16 @@ module _ {W V : Type 0} (items : V → List Saver) where
       (all_save describes fits carries c rows 0 wires starts tells f.0.lanes.items (subst (λ ts. AllTold describes fits carries told_by c rows 0 wires starts ts f.0.lanes.items) (sym ok.1) h) (subst AreNew (sym start) new) keep)
   saves_at_end describes fits carries c rows wires starts firsts (Err e) end tells ok err start new keep h =
       subst (λ (e : Result (Summary W) FinishFault). IfOk e (λ s. AllSave tells s.lanes.items)) (sym err.0) tt
+
+  -- the lanes tell by the ends by which they told at the start
+  pub seats_at_end : (starts firsts : List Saver) (r : Result (Summary W × V) FinishFault) (end : Result (Summary W) FinishFault) (tells : List Saver)
+      → IfOk r (λ f. (end ≡ Ok f.0) × (tells ≡ items f.1)) → IfErr r (λ e. (end ≡ Err e) × (tells ≡ [])) → starts ≡ firsts
+      → IfOk r (λ f. map destination_of (items f.1) ≡ map destination_of starts) → IfOk end (λ _. map seat_of tells ≡ map seat_of firsts)
+  seats_at_end starts firsts (Ok f) end tells ok err start same =
+      subst (λ (e : Result (Summary W) FinishFault). IfOk e (λ _. map seat_of tells ≡ map seat_of firsts)) (sym ok.0)
+      (ap (map seat_of) ok.1 ∙ (seats_by (items f.1) starts same ∙ ap (map seat_of) start))
+  seats_at_end starts firsts (Err e) end tells ok err start same =
+      subst (λ (x : Result (Summary W) FinishFault). IfOk x (λ _. map seat_of tells ≡ map seat_of firsts)) (sym err.0) tt
 
 -- ---- the start of a relay
 

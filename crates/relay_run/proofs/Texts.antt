@@ -5,12 +5,11 @@ use Rattle.std.specs.declared.alloc.AllocError.{AllocError}
 use Rattle.std.proofs.Math.Seq.{take-append_seam}
 use Rattle.std.proofs.lemmas.List.{drop_more}
 use Rattle.relay_core.specs.declared.report.Report.{Report}
-use Rattle.relay_ndjson.specs.Operations.{saturating_count}
 use Rattle.relay_words.specs.declared.exit.Exit.{Exit}
 use Rattle.relay_threads.specs.declared.summary.LaneSummary.{LaneSummary}
 use Rattle.relay_run.specs.declared.feed.FeedFault.{FeedFault}
 use Rattle.relay_run.specs.Faults.{file_fault, said_of, worse_by, faults_text, exit_of_files}
-use Rattle.relay_run.specs.Outcomes.{total, reports_of}
+use Rattle.relay_run.specs.Outcomes.{reports_of}
 
 -- ---- files
 
@@ -49,9 +48,6 @@ exit_on opened stops place d e old new all o s is h =
 -- ---- lanes
 
 module _ {W : Type 0} where
-  pub total_on : (count : LaneSummary W → ℕ) (sum new all : ℕ) (left others : List (LaneSummary W)) (s : LaneSummary W) → left ≡ s ∷ others → new ≡ saturating_count (sum + count s) → total count sum left ≡ all → total count new others ≡ all
-  total_on count sum new all left others s is more h = ap (λ n. total count n others) more ∙ ap (total count sum) (sym is) ∙ h
-
   pub reports_on : (reports new all : List Report) (left others : List (LaneSummary W)) (s : LaneSummary W) → left ≡ s ∷ others → new ≡ reports ++ s.reports.items → reports ++ reports_of left ≡ all → new ++ reports_of others ≡ all
   reports_on reports new all left others s is more h =
       ap (λ l. l ++ reports_of others) more ∙ append_assoc reports s.reports.items (reports_of others) ∙ ap (λ l. reports ++ reports_of l) (sym is) ∙ h

@@ -9,16 +9,12 @@ use Rattle.relay_words.specs.Taken.{TakesAll}
 use Rattle.relay_producer.specs.declared.fault.PutFaultKind.{PutFaultKind}
 use Rattle.relay_producer.specs.declared.fault.PutFaultKind.TheVariants as refusal
 use Rattle.relay_producer.specs.States.{ProducerState, after_put, after_gone}
+use Rattle.relay_common.specs.Putting.{after_puts}
 use Rattle.relay_run.specs.declared.feed.Next.{Next}
 use Rattle.relay_run.specs.declared.feed.Next.TheVariants as next
 use Rattle.relay_run.specs.declared.feed.FeedFault.{FeedFault}
 use Rattle.relay_run.specs.declared.feed.FeedFault.TheVariants as fault
 use Rattle.relay_run.specs.Settling.{Tellings}
-
--- a producer that put these operations, one after another
-abbrev pub after_puts : ProducerState → List Operation → ProducerState
-after_puts s [] = s
-after_puts s (op ∷ ops) = after_puts (after_put op.0 op.1 s) ops
 
 -- Why no more was put: only blank lines were left; or what follows has a fault, or a read or an allocation for it
 -- failed; or there is one more operation, but no number is left for it or its lane is gone; or it was told to stop, and

@@ -6,6 +6,7 @@ use Rattle.relay_run.specs.declared.feed.FeedFault.{FeedFault}
 use Rattle.relay_run.specs.declared.producing.FedProducer.{FedProducer}
 use Rattle.relay_run.specs.declared.producing.FedPromise.{FedPromise}
 use Rattle.relay_run.specs.Readers.{IsFed, first_reader, other_readers}
+use Rattle.relay_run.specs.Settling.{Tellings}
 
 -- what a producer's thread is given: the producer, its reader, if it has one, and the index of operations that do not
 -- name one
@@ -15,6 +16,10 @@ Given S = ProducerState × Option S × Option (List ℕ)
 module _ {S : Type 0} where
   abbrev pub given_to : PromisedHandle FedProducer (FedPromise S) → Given S
   given_to h = (h.promise.producer.value, h.promise.reader.value, option_map string_bytes h.promise.index.value)
+
+  -- what it tells by
+  abbrev pub telling_of : PromisedHandle FedProducer (FedPromise S) → Tellings
+  telling_of h = h.promise.telling.value
 
   -- each producer with the reader at its position
   abbrev pub all_given : Option (List ℕ) → List (Option S) → List ProducerState → List (Given S)

@@ -1,7 +1,6 @@
 pub mod Outcomes
 pub mod Faults
 pub mod Feeding
-pub mod Identities
 pub mod Readers
 pub mod Handles
 pub mod Saying
@@ -17,3 +16,9 @@ pub mod Wires
 pub mod Numbering
 pub mod Settling
 pub mod Resuming
+pub mod Marks
+pub mod Markings
+pub mod Safe
+pub mod Lines
+pub mod Written
+pub mod GoingOn

@@ -3,7 +3,7 @@ use Rattle.std.specs.Prelude.{◌≡◌, ℕ, ◌+◌, ◌*◌, ◌^◌, List, [
 use Rattle.std.specs.List.Sorted.{IsNonDecreasingBy}
 use Rattle.relay_action.specs.declared.operation.OpName.{OpName}
 use Rattle.relay_core.specs.declared.report.Report.{Report}
-use Rattle.relay_ndjson.specs.Operations.{saturating_count}
+use Rattle.relay_common.specs.Counts.{counts_line, total}
 use Rattle.relay_run.specs.Numbering.{report_on}
 use Rattle.relay_words.specs.declared.exit.Exit.{Exit}
 use Rattle.relay_words.specs.declared.exit.Exit.TheVariants as exit
@@ -13,16 +13,11 @@ use Rattle.relay_threads.specs.declared.fault.FinishFault.{FinishFault}
 use Rattle.relay_threads.specs.declared.fault.FinishFaultKind.{FinishFaultKind}
 use Rattle.relay_threads.specs.declared.fault.FinishFaultKind.TheVariants as kind
 use Rattle.relay_threads.specs.declared.summary.LaneSummary.{LaneSummary}
-use Rattle.relay_words.specs.Texts.{spaced_number, name_text, document_text, cause_text}
+use Rattle.relay_words.specs.Texts.{name_text, document_text, cause_text}
 
 -- `report P:N INDEX/ID CAUSE` and a line end
 abbrev pub report_line : Report → List ℕ
 report_line r = codes "report " ++ name_text r.name ++ codes " " ++ document_text r.key ++ codes " " ++ cause_text r.cause ++ codes "\n"
-
--- `applied A already B reported C` and a line end
-abbrev pub counts_line : ℕ → ℕ → ℕ → List ℕ
-counts_line applied already reported =
-    codes "applied" ++ spaced_number applied ++ codes " already" ++ spaced_number already ++ codes " reported" ++ spaced_number reported ++ codes "\n"
 
 -- the lines of the reports, and then the counts
 abbrev pub outcome_text : List Report → ℕ → ℕ → List ℕ
@@ -42,11 +37,6 @@ exit_of_reports [] = exit.Done
 exit_of_reports (r ∷ rs) = exit.Reported
 
 module _ {W : Type 0} where
-  -- the sum of a count over all lanes, on top of the sum so far; it saturates
-  abbrev pub total : (LaneSummary W → ℕ) → ℕ → List (LaneSummary W) → ℕ
-  total count sum [] = sum
-  total count sum (s ∷ ss) = total count (saturating_count (sum + count s)) ss
-
   -- the reports of all lanes
   abbrev pub reports_of : List (LaneSummary W) → List Report
   reports_of [] = []

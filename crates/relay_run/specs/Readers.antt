@@ -1,21 +1,15 @@
 -- What the producers of a run were fed, and what they put.
 use Rattle.std.specs.Prelude.{◌≡◌, ℕ, ◌+◌, List, [], ◌∷◌, Option, None, Some, Result, Ok, Err}
-use Rattle.relay_action.specs.declared.operation.Op.{Op}
 use Rattle.relay_ndjson.specs.Operations.{Operation}
 use Rattle.relay_ndjson.specs.Reading.{Reading, fresh}
 use Rattle.relay_queue.specs.Ends.{Queue}
 use Rattle.relay_producer.specs.Ends.{ClosesAll}
 use Rattle.relay_producer.specs.States.{ProducerState, ClosedProducerState}
 use Rattle.relay_threads.specs.Relay.{new_producer}
+use Rattle.relay_common.specs.Identities.{identity_of, identity_of_closed}
 use Rattle.relay_run.specs.declared.feed.FeedFault.{FeedFault}
 use Rattle.relay_run.specs.Feeding.{Feeds, FeedsAllTelling}
 use Rattle.relay_run.specs.Settling.{Tellings}
-use Rattle.relay_run.specs.Identities.{identity_of, identity_of_closed}
-
--- operations under the names of this producer in an epoch, with the numbers n, n + 1 and so on
-abbrev pub named_ops : ℕ → ℕ → ℕ → List Operation → List Op
-named_ops epoch producer n [] = []
-named_ops epoch producer n (op ∷ ops) = record { epoch = epoch; producer = producer; number = n; key = op.0; action = op.1 } ∷ named_ops epoch producer (n + 1) ops
 
 -- the result of `feed` with this fault, if there is one
 abbrev pub answer_of : Option FeedFault → Result Unit FeedFault
@@ -44,6 +38,10 @@ module _ {S : Type 0} (left : S → Option (List ℕ)) (failed : S → ℕ) (ind
   IsFedTelling None before after told now fault = (after ≡ before) × (fault ≡ None) × (now ≡ told)
   IsFedTelling (Some reader) before after told now fault =
       (new : Reading) × FeedsAllTelling (fresh (left reader) (failed reader) index) new before after told now (answer_of fault)
+
+  -- it was fed so, until it had this state
+  abbrev pub EndsTelling : Option S → ProducerState → (told now : Tellings) → Option FeedFault → Type 0
+  EndsTelling reader before told now fault = (after : ProducerState) × IsFedTelling reader before after told now fault
 
   -- the producer was fed from its reader, and closed
   pub record IsFed (reader : Option S) (before : ProducerState) (closed : ClosedProducerState) (fault : Option FeedFault) : Type 0 where

@@ -5,15 +5,16 @@ use Rattle.relay_delivery.specs.Machine as delivery
 use Rattle.relay_core.specs.declared.report.Report.{Report}
 use Rattle.relay_core.specs.declared.success.Success.{Success}
 use Rattle.relay_core.specs.Walk.{report_of}
+use Rattle.relay_keeping.specs.Tellers.{LaneState, seat}
 use Rattle.relay_report.specs.Reports.{report_line}
 use Rattle.relay_threads.specs.declared.summary.LaneSummary.{LaneSummary}
 use Rattle.relay_run.specs.Numbering.{report_on}
-use Rattle.relay_run.specs.Settling.{Settled, name_of}
+use Rattle.relay_run.specs.Settling.{Seat, Settled, name_of}
 use Rattle.relay_threads.specs.Told.{Told, applied_of, reports_of}
 
 -- What was written to the file of a lane, if it shows that; how many calls of it failed; whether a write of a report
 -- failed; how many operations of each input were settled before the run; what the lane told of: the operations that ended as
--- applied, and the reports, each in order; and which operations it told as settled.
+-- applied, and the reports, each in order; and which operations it told as settled, and by which end.
 pub record Saver : Type 0 where
   pub given : Option (List ℕ)
   pub failures : ℕ
@@ -22,6 +23,13 @@ pub record Saver : Type 0 where
   pub applied : List Success
   pub reported : List Report
   pub settled : Settled
+  pub via : Seat
+
+abbrev pub seat_of : Saver → Seat
+seat_of s = s.via
+
+abbrev pub lane_seat : LaneState → Seat
+lane_seat v = seat v.end
 
 -- of these, what was told of the operations of one producer
 abbrev pub told_by : Saver → ℕ → Option Told
@@ -76,6 +84,11 @@ GoesOn given now = (text : List ℕ) → BeginsWith given text → BeginsWith no
 abbrev pub AreUnwritten : {F : Type 0} → (F → Option (List ℕ)) → (F → ℕ) → List F → Type 0
 AreUnwritten written failed [] = Unit {0}
 AreUnwritten written failed (f ∷ fs) = (IsExactly (written f) [] × (failed f ≡ 0)) × AreUnwritten written failed fs
+
+-- none of these was given anything to tell
+abbrev pub AreUntold : List LaneState → Type 0
+AreUntold [] = Unit {0}
+AreUntold (v ∷ vs) = ((v.applied ≡ []) × (v.saved ≡ [])) × AreUntold vs
 
 -- none of them was told anything
 abbrev pub AreNew : List Saver → Type 0

@@ -1,12 +1,25 @@
 -- What the threads of a run tell of its inputs.
-use Rattle.std.specs.Prelude.{ℕ, Bool, true, false, List, [], ◌∷◌, ◌++◌}
+use Rattle.std.specs.Prelude.{ℕ, Bool, true, false, List, [], ◌∷◌, ◌++◌, Option}
 use Rattle.relay_action.specs.declared.operation.OpName.{OpName}
 use Rattle.relay_core.specs.declared.success.Success.{Success}
+use Rattle.relay_resume.specs.declared.mark.Mark.{Mark}
+use Rattle.relay_receipts.specs.Ends.{Channel}
+use Rattle.relay_keeping.specs.declared.told.Told.{Told}
 
--- what the thread of a producer told: the numbers of the last lines of operations, in order
+-- the channel of an end by which the keeper is told, and its position there; none, if nobody keeps marks
+abbrev pub Seat : Type 0
+Seat = Option (Channel Told × ℕ)
+
+-- what the thread of a producer told: the numbers of the last lines of operations, in order; by which end; and where its
+-- input is read from
 pub record Tellings : Type 0 where
-  pub producer : ℕ
   pub lines : List ℕ
+  pub via : Seat
+  pub start : Mark
+
+-- by which end it tells, and of an input that is read from where
+abbrev pub teller_of : Tellings → Seat × Mark
+teller_of t = (t.via, t.start)
 
 -- what a lane told: the names of operations that were applied, and of those whose reports were saved, each in order
 pub record Settled : Type 0 where

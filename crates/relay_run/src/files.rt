@@ -1,11 +1,18 @@
 //! Sending files of operations to an index: the function behind `relay run`.
-ghost use Rattle.std.specs.Prelude.{◌≡◌, IfOk, IfSome, IsTrue, length, string_bytes, vec_len};
+ghost use Rattle.std.specs.Prelude.{◌≡◌, ℕ, IfOk, IfSome, IsTrue, length, map, string_bytes, true, vec_len};
+ghost use Rattle.std.specs.Prelude.{◌≤◌, [], slice_get};
 ghost use Rattle.relay_http.specs.WrittenRequest.{is_host};
 ghost use Rattle.relay_run.specs.ReportFile.{AreNewHandles};
-ghost use Rattle.relay_run.specs.Saving.{AreNew};
+ghost use Rattle.relay_run.specs.Saving.{AreNew, AreUntold, lane_seat, seat_of};
+ghost use Rattle.relay_run.specs.Settling.{teller_of};
+ghost use Rattle.relay_run.specs.Markings.{EndsAsTold};
+ghost use Rattle.relay_run.specs.Marks.{HasFiles, IsToldBy, IsToldIf, bound, bounds_in, bounds_of};
+ghost use Rattle.relay_run.specs.Marks.{fixed_of, held_by, keeper_fixed};
+ghost use Rattle.relay_run.specs.Written.{AreBegun, BeginsAt, GoIf, GoesBy, StartsAt};
 
-use crate::keeping::{Keeper, Keeping, end_keeping, kept_of, start_keeping};
+use crate::keeping::{Ended, Keeper, Keeping, Kept, end_keeping, kept_of, start_keeping};
 use crate::leasing::{config_of, say_no_epoch};
+use crate::marking::{Marked, meet_marks};
 use crate::noting::{Opened, SharedNote};
 use crate::numbering::Numbering;
 use crate::opening::{Reader, ReaderOptions, make_readers, notes_of, whole_size};
@@ -16,7 +23,7 @@ use crate::resolving::{is_known, say_unknown};
 use crate::resuming::{Resumed, START, say_resumed};
 use crate::run::Ran;
 use crate::saying::{are_opened, say_left, say_notes, say_ran, say_start};
-use crate::settling::{Settling, SharedSettling, share_settling};
+use crate::settling::{Ends, SharedRead, Telling};
 use crate::skipping::{LeavingOut, sift_readers};
 use crate::starting::{Devices, open_devices, say_not_started};
 use crate::stopping::{SharedStop, Stop, share_stop};
@@ -25,6 +32,7 @@ use crate::waiting::{Job, run_until};
 use crate::watching::{Counters, counters_of, share, start_watch, stop_watch};
 use crate::wiring::{RunPace, RunWire, count_wires, make_paces, make_wires};
 use relay_action::{ByteIn, ByteOut, write_all};
+use relay_keeping::MarkKeeper;
 use relay_lane::RelayConfig;
 use relay_progress::Show;
 use relay_resume::Mark;
@@ -32,6 +40,7 @@ use relay_threads::StartFault;
 use relay_words::Exit;
 use std::alloc::{AllocError, Global};
 use std::io::IsTerminal;
+use std::mem;
 use std::sync::{Arc, Wait};
 use std::thread::Threads;
 use std::time::Clock;
@@ -41,8 +50,6 @@ use std::time::Clock;
 struct Common {
     // What may stop it.
     stop: Option<SharedStop>,
-    // Whom they tell how far the files are settled, if anybody.
-    settling: Option<SharedSettling>,
     counters: Counters,
     // The epoch, if it is that of a state.
     epoch: Option<u32>,
@@ -50,13 +57,20 @@ struct Common {
     starts: Vec<Mark>,
 }
 
-// What the lanes of a run tell by, what its threads share, and what is known of each file.
+// What the threads of a run tell by, what they share, and what is known of each file.
 #[derive(Drop)]
 struct Lanes {
-    tells: Vec<SavingTell<ReportOut>>,
+    marked: Marked<ReportOut>,
     common: Common,
     notes: Vec<SharedNote>,
     show: Show,
+}
+
+// What the threads of a run tell by.
+#[derive(Drop)]
+struct Told {
+    tells: Vec<SavingTell<ReportOut>>,
+    inputs: Vec<Telling>,
 }
 
 // The wires and paces of a run, and what its lanes and producers are given.
@@ -65,23 +79,28 @@ fn job_of<S>(
     alloc: Global,
     options: &RunOptions,
     config: RelayConfig,
-    tells: Vec<SavingTell<ReportOut>>,
+    told: Told,
     readers: Vec<Option<S>>,
     counters: &Counters,
 ) -> Result<Job<RunWire, RunPace, S, ReportOut>, AllocError>
 where
     S: ByteIn + Drop,
     requires host { IsTrue (is_host (string_bytes options.now.to)) }
-    requires new { AreNew tells.items }
-    ensures { IfOk result (λ j. j ≡ config) }
+    requires new { AreNew told.tells.items }
+    requires inputs { vec_len told.inputs ≡ config.producers }
+    ensures config { IfOk result (λ j. j.config ≡ config) }
+    ensures tells { IfOk result (λ j. j.tells ≡ told.tells.items) }
+    ensures inputs { IfOk result (λ j. j.inputs ≡ told.inputs.items) }
 {
     let wires = make_wires(host, alloc, options, &counters.dials)?;
     let wires = count_wires(alloc, wires, &counters.wires)?;
     let paces = make_paces(host, alloc, options.config.lanes)?;
-    Ok(Job::new(config, wires, paces, tells, readers))
+    let Told { tells, inputs } = told;
+    Ok(Job::new(config, wires, paces, tells, inputs, readers))
 }
 
-// Writes how a run has ended, and returns the exit status.
+// Writes how a run has ended, after what the keeper of its marks took, if there is one, was compared with
+// what its threads told, and returns the exit status.
 fn say_end<W: Drop, O: ByteOut, E: ByteOut>(
     alloc: Global,
     options: &RunOptions,
@@ -89,6 +108,8 @@ fn say_end<W: Drop, O: ByteOut, E: ByteOut>(
     opened: &[bool],
     notes: &[SharedNote],
     common: &Common,
+    ended: &Ended,
+    marks: Option<MarkKeeper>,
     ran: Option<Result<Ran<W, ReportOut>, StartFault>>,
     out: &mut O,
     err: &mut E,
@@ -97,6 +118,11 @@ fn say_end<W: Drop, O: ByteOut, E: ByteOut>(
     requires notes { length notes.now ≡ vec_len options.now.files }
     requires stops { IfSome ran (λ o. IfOk o (λ r. vec_len r.faults
         ≡ vec_len options.now.files)) }
+    requires told { IfSome ran (λ o. IfOk o (λ r. IfOk r.end (λ _. IsToldIf (bounds_of marks)
+        (map teller_of r.inputs.items) (map seat_of r.tells.items)))) }
+    requires goes { GoIf marks ended.now.state }
+    requires paths { IfSome ended.now.state (λ s. s.reads.files
+        ≡ map string_bytes options.now.files.items) }
 {
     let starts = &common.starts;
     match ran {
@@ -107,7 +133,7 @@ fn say_end<W: Drop, O: ByteOut, E: ByteOut>(
             opened,
             notes,
             starts,
-            ran,
+            met_ran(alloc, &options.files, marks, &ended.state, ran)?,
             &common.stop,
             out,
             err,
@@ -117,7 +143,156 @@ fn say_end<W: Drop, O: ByteOut, E: ByteOut>(
     }
 }
 
-// Runs these readers over TCP with this config, and writes the outcome.
+// What the threads tell by, and the thread that keeps it, if one does.
+fn parts_of(marked: Marked<ReportOut>) -> (Told, Option<Keeping>)
+    ensures tells { result.0.tells.items ≡ marked.tells }
+    ensures inputs { result.0.inputs.items ≡ marked.inputs }
+    ensures fixed { held_by result.1 ≡ marked.fixed }
+    ensures told { IsToldIf (bounds_in (held_by result.1)) (map teller_of result.0.inputs.items)
+        (map seat_of result.0.tells.items) }
+{
+    let (tells, inputs, keeping) = marked.into_parts();
+    (Told { tells, inputs }, keeping)
+}
+
+// Compares what the keeper took with what the threads of a run told, if it has ended with a summary.
+fn meet_if(
+    alloc: Global,
+    files: &[String],
+    marks: MarkKeeper,
+    state: &Resumed,
+    is_whole: bool,
+    inputs: Vec<Telling>,
+    tells: Vec<SavingTell<ReportOut>>,
+) -> Result<(), AllocError>
+    requires told { is_whole ≡ true → IsToldBy (bound marks) (map teller_of inputs.items)
+        (map seat_of tells.items) }
+    requires goes { GoesBy marks state.now }
+    requires paths { state.now.reads.files ≡ map string_bytes files.now }
+{
+    if is_whole {
+        meet_marks(alloc, files, marks, state, inputs, tells)?;
+    }
+    Ok(())
+}
+
+// Does so with what a run gave back that has ended, if there is a keeper: in proofs, this shows what is
+// before each mark that it gave.
+fn met_ran<W: Drop>(
+    alloc: Global,
+    files: &[String],
+    marks: Option<MarkKeeper>,
+    state: &Option<Resumed>,
+    ran: Ran<W, ReportOut>,
+) -> Result<Ran<W, ReportOut>, AllocError>
+    requires told { IfOk ran.end (λ _. IsToldIf (bounds_of marks) (map teller_of ran.inputs.items)
+        (map seat_of ran.tells.items)) }
+    requires goes { GoIf marks state.now }
+    requires paths { IfSome state.now (λ s. s.reads.files ≡ map string_bytes files.now) }
+    ensures { IfOk result (λ r. r.faults ≡ ran.faults) }
+{
+    let Ran {
+        faults,
+        end,
+        tells,
+        unsaved,
+        inputs,
+    } = ran;
+    if let (Some(marks), Some(state)) = (marks, state) {
+        meet_if(alloc, files, marks, state, end.is_ok(), inputs, tells)?;
+    }
+    Ok(Ran {
+        faults,
+        end,
+        tells: Vec::new(alloc),
+        unsaved,
+        inputs: Vec::new(alloc),
+    })
+}
+
+// What has become of a run.
+#[derive(Drop)]
+struct Over {
+    // How it has ended; it was left if there is nothing.
+    ran: Option<Result<Ran<RunWire, ReportOut>, StartFault>>,
+    // The state that was kept, if there is one, and the keeper of its marks.
+    ended: Ended,
+    marks: Option<MarkKeeper>,
+}
+
+// Runs a job, and shows meanwhile how far it has got.
+fn run_shown<R, S>(
+    rt: R,
+    host: HostRuntime,
+    options: &RunOptions,
+    job: Job<RunWire, RunPace, S, ReportOut>,
+    common: &Common,
+    show: Show,
+) -> Result<Option<Result<Ran<RunWire, ReportOut>, StartFault>>, AllocError>
+where
+    R: Threads + Wait + Clock + Copy + Send + 'static,
+    S: ByteIn + Drop + Send + 'static,
+    ensures count { IfOk result (λ o. IfSome o
+        (λ ran. IfOk ran (λ r. vec_len r.faults ≡ job.config.producers))) }
+    ensures told { IfOk result (λ o. IfSome o (λ ran. IfOk ran (λ r. EndsAsTold job.inputs
+        job.tells r.end r.inputs.items r.tells.items))) }
+{
+    let alloc = host.alloc();
+    let watch = start_watch(rt, host, alloc, show, share(&common.counters.dials)?)?;
+    let index = options.index.as_deref();
+    let limit = options.until.as_ref().map(|_| options.timeout);
+    let ran = run_until(rt, alloc, job, index, &common.stop, limit);
+    stop_watch(&rt, watch);
+    ran
+}
+
+// Runs these readers over TCP with this config, and ends the thread beside the run.
+fn run_beside<R, S>(
+    rt: R,
+    host: HostRuntime,
+    options: &RunOptions,
+    config: RelayConfig,
+    readers: Vec<Option<S>>,
+    marked: Marked<ReportOut>,
+    common: &Common,
+    show: Show,
+) -> Result<Over, AllocError>
+where
+    R: Threads + Wait + Clock + Copy + Send + 'static,
+    S: ByteIn + Drop + Send + 'static,
+    requires host { IsTrue (is_host (string_bytes options.now.to)) }
+    requires new { AreNew marked.tells }
+    requires inputs { length marked.inputs ≡ config.producers }
+    requires paths { HasFiles (map string_bytes options.now.files.items) marked.fixed }
+    ensures stops { IfOk result (λ v. IfSome v.ran (λ o. IfOk o (λ r. vec_len r.faults
+        ≡ config.producers))) }
+    ensures told { IfOk result (λ v. IfSome v.ran (λ o. IfOk o (λ r. IfOk r.end (λ _. IsToldIf
+        (bounds_of v.marks) (map teller_of r.inputs.items) (map seat_of r.tells.items))))) }
+    ensures goes { IfOk result (λ v. GoIf v.marks v.ended.state) }
+    ensures paths { IfOk result (λ v. IfSome v.ended.state (λ s. s.reads.files
+        ≡ map string_bytes options.now.files.items)) }
+{
+    let alloc = host.alloc();
+    let (told, keeping) = parts_of(marked);
+    let job = job_of(
+        host,
+        alloc,
+        options,
+        config,
+        told,
+        readers,
+        &common.counters,
+    )?;
+    let ran = run_shown(rt, host, options, job, common, show);
+    let (ended, marks) = end_keeping(&rt, alloc, keeping);
+    Ok(Over {
+        ran: ran?,
+        ended,
+        marks,
+    })
+}
+
+// Does so, and writes the outcome.
 fn run_readers<R, S, O, E>(
     rt: R,
     host: HostRuntime,
@@ -137,41 +312,34 @@ where
     requires files { vec_len options.now.files ≡ config.producers }
     requires readers { vec_len readers ≡ vec_len options.now.files }
     requires notes { vec_len lanes.notes ≡ vec_len options.now.files }
-    requires new { AreNew lanes.tells.items }
+    requires new { AreNew lanes.marked.tells }
+    requires inputs { length lanes.marked.inputs ≡ config.producers }
+    requires paths { HasFiles (map string_bytes options.now.files.items) lanes.marked.fixed }
 {
     let alloc = host.alloc();
     let Lanes {
-        tells,
+        marked,
         common,
         notes,
         show,
     } = lanes;
     let opened = are_opened(alloc, &readers)?;
-    let job = job_of(
-        host,
-        alloc,
-        options,
-        config,
-        tells,
-        readers,
-        &common.counters,
-    )?;
-    let watch = start_watch(rt, host, alloc, show, share(&common.counters.dials)?)?;
-    let index = options.index.as_deref();
-    let limit = options.until.as_ref().map(|_| options.timeout);
-    let ran = run_until(rt, alloc, job, index, &common.stop, &common.settling, limit);
-    stop_watch(&rt, watch);
-    say_end(
+    let over = run_beside(rt, host, options, config, readers, marked, &common, show)?;
+    let Over { ran, ended, marks } = over;
+    let exit = say_end(
         alloc,
         options,
         config.epoch,
         &opened,
         &notes,
         &common,
-        ran?,
+        &ended,
+        marks,
+        ran,
         out,
         err,
-    )
+    )?;
+    ended.say(alloc, exit, err)
 }
 
 // Runs these readers without invalid operations, and says how many were left out.
@@ -194,7 +362,9 @@ where
     requires files { vec_len options.now.files ≡ config.producers }
     requires readers { vec_len readers ≡ vec_len options.now.files }
     requires notes { vec_len lanes.notes ≡ vec_len options.now.files }
-    requires new { AreNew lanes.tells.items }
+    requires new { AreNew lanes.marked.tells }
+    requires inputs { length lanes.marked.inputs ≡ config.producers }
+    requires paths { HasFiles (map string_bytes options.now.files.items) lanes.marked.fixed }
 {
     let alloc = host.alloc();
     let left_out = Arc::try_clone(&leaving.notes)?;
@@ -203,11 +373,12 @@ where
     say_notes(alloc, options, exit, &left_out, err)
 }
 
-// What the lanes of a run tell by, what its threads share, and where the lines of invalid operations
-// go, if these are left out.
+// What the threads of a run tell by, and note in what they read, what they share, and where the lines
+// of invalid operations go, if these are left out.
 #[derive(Drop)]
-struct Telling {
-    tells: Vec<SavingTell<ReportOut>>,
+struct Going {
+    marked: Marked<ReportOut>,
+    reads: Vec<SharedRead>,
     common: Common,
     leaving: Option<LeavingOut<ReportOut>>,
 }
@@ -238,6 +409,7 @@ fn readers_of<R>(
     alloc: Global,
     options: &RunOptions,
     sources: Vec<Opened>,
+    reads: &[SharedRead],
     common: &Common,
 ) -> Result<Vec<Option<Reader<R>>>, AllocError>
 where
@@ -246,11 +418,10 @@ where
 {
     let reading = ReaderOptions {
         counts: share(&common.counters.readers)?,
-        settling: share_settling(&common.settling)?,
         stop: share_stop(&common.stop)?,
         waits: options.until.is_some(),
     };
-    make_readers(rt, alloc, sources, &reading)
+    make_readers(rt, alloc, sources, reads, &reading)
 }
 
 // Runs the files over TCP with this config, and writes the outcome.
@@ -260,7 +431,7 @@ fn run_said<R, O, E>(
     options: &RunOptions,
     config: RelayConfig,
     sources: Vec<Opened>,
-    telling: Telling,
+    going: Going,
     out: &mut O,
     err: &mut E,
 ) -> Result<Exit, AllocError>
@@ -271,19 +442,22 @@ where
     requires host { IsTrue (is_host (string_bytes options.now.to)) }
     requires files { vec_len options.now.files ≡ config.producers }
     requires sources { vec_len sources ≡ vec_len options.now.files }
-    requires new { AreNew telling.tells.items }
+    requires new { AreNew going.marked.tells }
+    requires inputs { length going.marked.inputs ≡ config.producers }
+    requires paths { HasFiles (map string_bytes options.now.files.items) going.marked.fixed }
 {
     let alloc = host.alloc();
-    let Telling {
-        tells,
+    let Going {
+        marked,
+        reads,
         common,
         leaving,
-    } = telling;
+    } = going;
     let show = show_of(host, alloc, options, config, &sources, &common.starts)?;
     let notes = notes_of(alloc, &sources)?;
-    let readers = readers_of(rt, alloc, options, sources, &common)?;
+    let readers = readers_of(rt, alloc, options, sources, &reads, &common)?;
     let lanes = Lanes {
-        tells,
+        marked,
         common,
         notes,
         show,
@@ -302,7 +476,7 @@ fn run_in_epoch<R, O, E>(
     host: HostRuntime,
     options: &RunOptions,
     sources: Vec<Opened>,
-    telling: Telling,
+    going: Going,
     out: &mut O,
     err: &mut E,
 ) -> Result<Exit, AllocError>
@@ -313,18 +487,20 @@ where
     requires host { IsTrue (is_host (string_bytes options.now.to)) }
     requires files { vec_len options.now.files ≡ options.now.config.producers }
     requires sources { vec_len sources ≡ vec_len options.now.files }
-    requires new { AreNew telling.tells.items }
+    requires new { AreNew going.marked.tells }
+    requires inputs { length going.marked.inputs ≡ options.now.config.producers }
+    requires paths { HasFiles (map string_bytes options.now.files.items) going.marked.fixed }
 {
     let alloc = host.alloc();
-    if let Some(epoch) = telling.common.epoch {
+    if let Some(epoch) = going.common.epoch {
         let config = RelayConfig {
             epoch,
             ..options.config
         };
-        return run_said(rt, host, options, config, sources, telling, out, err);
+        return run_said(rt, host, options, config, sources, going, out, err);
     }
     match config_of(host, alloc, options) {
-        Ok(config) => run_said(rt, host, options, config, sources, telling, out, err),
+        Ok(config) => run_said(rt, host, options, config, sources, going, out, err),
         Err(fault) => say_no_epoch(alloc, &fault, err),
     }
 }
@@ -334,29 +510,47 @@ fn starts_of(
     alloc: Global,
     resumed: &Option<Resumed>,
     files: usize,
-) -> Result<Vec<Mark>, AllocError> {
+) -> Result<Vec<Mark>, AllocError>
+    ensures count { IfOk result (λ v. vec_len v ≡ files) }
+    ensures starts { IfSome resumed.now (λ r. length r.starts ≤ files
+        → IfOk result (λ v. StartsAt r.starts v.items)) }
+{
     let mut starts = Vec::new(alloc);
-    match resumed {
-        Some(resumed) => starts.extend_from_slice(&resumed.starts)?,
-        None => {
-            for _ in 0..files {
-                starts.push(START)?;
-            }
-        }
+    'files: for place in 0..files {
+        starts.push(start_at(resumed, place))?;
     }
     Ok(starts)
 }
 
-// Whom the threads of a run tell how far the files are settled, which is kept in a state if there is
-// one.
-fn settling_of(
+// Where the file at this place is read from.
+fn start_at(resumed: &Option<Resumed>, place: usize) -> Mark
+    ensures { IfSome resumed.now (λ r. IfSome (slice_get r.starts place) (λ m. result ≡ m)) }
+{
+    match resumed {
+        Some(resumed) => resumed.start(place).unwrap_or(START),
+        None => START,
+    }
+}
+
+// By what the threads of a run with so many lanes tell how far the files are settled, which is kept in
+// a state if there is one.
+fn ends_of(
     alloc: Global,
     resumed: &Option<Resumed>,
     starts: &[Mark],
-) -> Result<Option<SharedSettling>, AllocError> {
+    lanes: usize,
+) -> Result<Ends, AllocError>
+    ensures inputs { IfOk result (λ e. vec_len e.inputs ≡ length starts.now) }
+    ensures lanes { IfOk result (λ e. vec_len e.lanes ≡ lanes) }
+    ensures new { IfOk result (λ e. AreUntold e.lanes.items) }
+    ensures told { IfOk result (λ e. IsToldIf (bounds_of e.keeper) (map teller_of e.inputs.items)
+        (map lane_seat e.lanes.items)) }
+    ensures keeper { IfOk result (λ e. IfSome e.keeper (λ k. (k.starts ≡ starts.now)
+        × (k.given ≡ []))) }
+{
     match resumed {
-        Some(_) => Ok(Some(Settling::shared(alloc, starts)?)),
-        None => Ok(None),
+        Some(_) => Ends::new(alloc, starts, lanes),
+        None => Ends::none(alloc, starts.len(), lanes),
     }
 }
 
@@ -366,17 +560,16 @@ fn common_of(
     alloc: Global,
     options: &RunOptions,
     resumed: &Option<Resumed>,
-    files: usize,
-) -> Result<Common, AllocError> {
+    starts: Vec<Mark>,
+) -> Result<Common, AllocError>
+    ensures { IfOk result (λ c. c.starts.items ≡ starts.items) }
+{
     let terminal = host.stderr().is_terminal();
     let counters = counters_of(alloc, options.progress, options.log, terminal)?;
     let conflicts = share(&counters.wires)?;
     let stop = Stop::shared(alloc, options.max_reports as u64, conflicts)?;
-    let starts = starts_of(alloc, resumed, files)?;
-    let settling = settling_of(alloc, resumed, &starts)?;
     Ok(Common {
         stop: Some(stop),
-        settling,
         counters,
         epoch: resumed.as_ref().map(Resumed::epoch),
         starts,
@@ -388,10 +581,11 @@ fn keeper_of(
     host: HostRuntime,
     alloc: Global,
     options: &RunOptions,
-    resumed: Option<Resumed>,
+    kept: Option<Kept>,
     common: &Common,
-) -> Result<Option<Keeper>, AllocError> {
-    let kept = kept_of(resumed, &common.settling)?;
+) -> Result<Option<Keeper>, AllocError>
+    ensures { IfOk result (λ o. keeper_fixed o ≡ fixed_of kept) }
+{
     let until = own_text(alloc, options.until.as_deref())?;
     if kept.is_none() && until.is_none() {
         return Ok(None);
@@ -406,48 +600,89 @@ fn keep_beside<R>(
     host: HostRuntime,
     alloc: Global,
     options: &RunOptions,
-    resumed: Option<Resumed>,
+    kept: Option<Kept>,
     common: &Common,
 ) -> Result<Option<Keeping>, AllocError>
 where
     R: Threads + Wait + Clock + Copy + Send + 'static,
+    ensures { IfOk result (λ o. held_by o ≡ fixed_of kept) }
 {
-    match keeper_of(host, alloc, options, resumed, common)? {
+    match keeper_of(host, alloc, options, kept, common)? {
         Some(keeper) => Ok(Some(start_keeping(rt, alloc, keeper)?)),
         None => Ok(None),
     }
 }
 
-// Runs these files, whose reports go to these handles.
-fn run_telling<R, O, E>(
+// By what the threads of a run tell, with a thread that keeps what they tell and looks for the file that
+// ends the run, if it is to do anything.
+fn marked_beside<R>(
     rt: R,
     host: HostRuntime,
     options: &RunOptions,
+    resumed: Option<Resumed>,
     handles: Vec<ReportOut>,
-    leaving: Option<LeavingOut<ReportOut>>,
-    sources: Vec<Opened>,
-    common: Common,
-    out: &mut O,
-    err: &mut E,
-) -> Result<Exit, AllocError>
+    ends: Ends,
+    common: &Common,
+) -> Result<Marked<ReportOut>, AllocError>
 where
     R: Threads + Wait + Clock + Copy + Send + 'static,
-    O: ByteOut,
-    E: ByteOut,
-    requires host { IsTrue (is_host (string_bytes options.now.to)) }
-    requires files { vec_len options.now.files ≡ options.now.config.producers }
-    requires sources { vec_len sources ≡ vec_len options.now.files }
     requires handles { AreNewHandles handles.items }
+    requires lanes { vec_len ends.lanes ≡ vec_len handles }
+    requires new { AreUntold ends.lanes.items }
+    requires told { IsToldIf (bounds_of ends.keeper) (map teller_of ends.inputs.items)
+        (map lane_seat ends.lanes.items) }
+    requires begun { AreBegun resumed ends.keeper }
+    requires paths { BeginsAt (map string_bytes options.now.files.items) resumed }
+    ensures new { IfOk result (λ m. AreNew m.tells) }
+    ensures inputs { IfOk result (λ m. m.inputs ≡ ends.inputs.items) }
+    ensures paths { IfOk result (λ m. HasFiles (map string_bytes options.now.files.items)
+        m.fixed) }
 {
     let alloc = host.alloc();
+    let Ends {
+        inputs,
+        reads: _,
+        lanes,
+        keeper,
+    } = ends;
     let numbering = Numbering::of(&common.starts);
-    let tells = make_tells(alloc, handles, numbering, &common.stop, &common.settling)?;
-    let telling = Telling {
-        tells,
+    let tells = make_tells(alloc, handles, numbering, &common.stop, lanes)?;
+    let kept = kept_of(resumed, keeper);
+    let keeping = keep_beside(rt, host, alloc, options, kept, common)?;
+    Ok(Marked::new(tells, inputs, keeping))
+}
+
+// What the threads of a run tell by and share, of which one keeps the state if there is one.
+fn going_of<R>(
+    rt: R,
+    host: HostRuntime,
+    options: &RunOptions,
+    resumed: Option<Resumed>,
+    starts: Vec<Mark>,
+    handles: Vec<ReportOut>,
+    leaving: Option<LeavingOut<ReportOut>>,
+) -> Result<Going, AllocError>
+where
+    R: Threads + Wait + Clock + Copy + Send + 'static,
+    requires handles { AreNewHandles handles.items }
+    requires begun { BeginsAt (map string_bytes options.now.files.items) resumed }
+    requires starts { IfSome resumed (λ r. StartsAt r.starts starts.items) }
+    ensures new { IfOk result (λ g. AreNew g.marked.tells) }
+    ensures inputs { IfOk result (λ g. length g.marked.inputs ≡ vec_len starts) }
+    ensures paths { IfOk result (λ g. HasFiles (map string_bytes options.now.files.items)
+        g.marked.fixed) }
+{
+    let alloc = host.alloc();
+    let mut ends = ends_of(alloc, &resumed, &starts, handles.len())?;
+    let reads = mem::replace(&mut ends.reads, Vec::new(alloc));
+    let common = common_of(host, alloc, options, &resumed, starts)?;
+    let marked = marked_beside(rt, host, options, resumed, handles, ends, &common)?;
+    Ok(Going {
+        marked,
+        reads,
         common,
         leaving,
-    };
-    run_in_epoch(rt, host, options, sources, telling, out, err)
+    })
 }
 
 // Runs these files, and keeps the state meanwhile.
@@ -467,6 +702,7 @@ where
     requires files { vec_len options.now.files ≡ options.now.config.producers }
     requires sources { vec_len devices.sources ≡ vec_len options.now.files }
     requires handles { AreNewHandles devices.handles.items }
+    requires begun { BeginsAt (map string_bytes options.now.files.items) devices.resumed }
 {
     let alloc = host.alloc();
     let Devices {
@@ -475,13 +711,10 @@ where
         sources,
         resumed,
     } = devices;
-    let common = common_of(host, alloc, options, &resumed, sources.len())?;
-    say_resumed(alloc, &options.files, &common.starts, err)?;
-    let keeping = keep_beside(rt, host, alloc, options, resumed, &common)?;
-    let exit = run_telling(
-        rt, host, options, handles, leaving, sources, common, out, err,
-    )?;
-    end_keeping(&rt, alloc, keeping, exit, err)
+    let starts = starts_of(alloc, &resumed, sources.len())?;
+    say_resumed(alloc, &options.files, &starts, err)?;
+    let going = going_of(rt, host, options, resumed, starts, handles, leaving)?;
+    run_in_epoch(rt, host, options, sources, going, out, err)
 }
 
 // Looks up the address, opens the files, and does the same.

@@ -3,7 +3,7 @@ ghost use Rattle.std.specs.Prelude.{◌≡◌, IfOk, length, vec_len};
 
 use crate::noting::{FileNote, NotedSource, Opened, SharedNote};
 use crate::pumping::ToldSource;
-use crate::settling::{SharedSettling, Telling, producer_at, share_settling};
+use crate::settling::{SharedRead, read_at};
 use crate::source::open_source;
 use crate::stopping::{SharedStop, share_stop};
 use crate::watching::share;
@@ -79,24 +79,24 @@ pub(crate) fn notes_of(alloc: Global, sources: &[Opened]) -> Result<Vec<SharedNo
 /// A counted reader of a file.
 pub(crate) type Reader<R> = CountedReader<StdStream<ToldSource<R>>>;
 
-/// What the readers of a run are told, and tell.
+/// What the readers of a run are told.
 #[derive(Drop)]
 pub(crate) struct ReaderOptions {
     /// Where what they read is counted, if it is.
     pub counts: Option<Shared>,
-    /// Whom they tell what they read, if anybody.
-    pub settling: Option<SharedSettling>,
     /// What may stop them.
     pub stop: Option<SharedStop>,
     /// Whether it may stop them while they wait for a file.
     pub waits: bool,
 }
 
-/// A reader for each file that could be opened. `AllocError`: allocation failed.
+/// A reader for each file that could be opened, which notes what it reads in what is at its place, if
+/// there is something. `AllocError`: allocation failed.
 pub(crate) fn make_readers<R>(
     rt: R,
     alloc: Global,
     sources: Vec<Opened>,
+    reads: &[SharedRead],
     options: &ReaderOptions,
 ) -> Result<Vec<Option<Reader<R>>>, AllocError>
 where
@@ -105,18 +105,18 @@ where
 {
     let mut readers = Vec::new(alloc);
     for opened in sources {
-        let producer = producer_at(readers.len());
-        readers.push(make_reader(rt, alloc, producer, opened, options)?)?;
+        let ahead = read_at(reads, readers.len())?;
+        readers.push(make_reader(rt, alloc, opened, ahead, options)?)?;
     }
     Ok(readers)
 }
 
-// A reader for this producer, if its file could be opened.
+// A reader, if its file could be opened.
 fn make_reader<R>(
     rt: R,
     alloc: Global,
-    producer: u32,
     opened: Opened,
+    ahead: Option<SharedRead>,
     options: &ReaderOptions,
 ) -> Result<Option<Reader<R>>, AllocError>
 where
@@ -129,9 +129,8 @@ where
     let Some(source) = source else {
         return Ok(None);
     };
-    let telling = Telling::new(share_settling(&options.settling)?, producer);
     let stop = share_stop(&options.stop)?;
-    let source = ToldSource::new(rt, alloc, source, telling, options.waits, stop)?;
+    let source = ToldSource::new(rt, alloc, source, ahead, options.waits, stop)?;
     let counts = share(&options.counts)?;
     Ok(Some(CountedReader::new(StdStream::new(source), counts)))
 }

@@ -1,12 +1,12 @@
 //! The lines at the end of a run.
 ghost use Rattle.std.specs.Prelude.{◌≡◌, ◌++◌, ◌*◌, ◌+◌, flat_map, IsPermutation};
 ghost use Rattle.std.specs.Prelude.{OnOk, IfOk};
-ghost use Rattle.relay_run.specs.Outcomes.{report_line, counts_line, outcome_text, place_of};
-ghost use Rattle.relay_run.specs.Outcomes.{AreInOrder};
+ghost use Rattle.relay_run.specs.Outcomes.{report_line, outcome_text, place_of, AreInOrder};
 
 use relay_action::OpName;
+use relay_common::counts::add_counts;
 use relay_core::Report;
-use relay_words::{add_cause, add_document, add_name, add_spaced};
+use relay_words::{add_cause, add_document, add_name};
 use std::alloc::{AllocError, Global};
 
 /// A line `report P:N INDEX/ID CAUSE` for each report, by producer and then by number, followed by
@@ -62,25 +62,5 @@ fn add_report(text: &mut Vec<u8>, report: &Report) -> Result<(), AllocError>
     add_document(text, &report.key)?;
     text.extend_from_slice(b" ")?;
     add_cause(text, &report.cause)?;
-    text.extend_from_slice(b"\n")
-}
-
-/// Adds the line of the counts: `applied N already N reported N`. `AllocError`: allocation failed;
-/// the front of the line may have been added.
-pub fn add_counts(
-    text: &mut Vec<u8>,
-    applied: u64,
-    already: u64,
-    reported: u64,
-) -> Result<(), AllocError>
-    ensures { OnOk result
-        (text.new.items ≡ text.old.items ++ counts_line applied already reported) }
-{
-    text.extend_from_slice(b"applied")?;
-    add_spaced(text, applied)?;
-    text.extend_from_slice(b" already")?;
-    add_spaced(text, already)?;
-    text.extend_from_slice(b" reported")?;
-    add_spaced(text, reported)?;
     text.extend_from_slice(b"\n")
 }

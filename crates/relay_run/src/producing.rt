@@ -1,12 +1,13 @@
 //! The thread of a producer: it puts the operations of a stream, and closes.
-ghost use Rattle.std.specs.Prelude.{◌≡◌, ◌⊎◌, map, option_map, string_bytes, IfErr, IfOk};
+ghost use Rattle.std.specs.Prelude.{◌≡◌, ◌⊎◌, map, option_map, string_bytes, IfErr, IfOk, vec_len};
 ghost use Rattle.relay_ndjson.specs.Metadata.{bytes_given};
 ghost use Rattle.relay_producer.specs.Ends.{identities, open_puts};
-ghost use Rattle.relay_run.specs.Readers.{IsFedTelling, IsFed};
-ghost use Rattle.relay_run.specs.Handles.{given_to, all_given, AllEndFed};
+ghost use Rattle.relay_run.specs.Readers.{IsFedTelling, IsFed, EndsTelling};
+ghost use Rattle.relay_run.specs.Handles.{given_to, all_given, telling_of, AllEndFed};
+ghost use Rattle.relay_run.specs.Settling.{teller_of};
 
 use crate::feed::{FeedFault, feed};
-use crate::settling::{SharedSettling, Telling, producer_at, share_settling};
+use crate::settling::Telling;
 use crate::stopping::{SharedStop, share_stop};
 use crossbeam_channel::Sender;
 use relay_action::ByteIn;
@@ -26,9 +27,12 @@ pub struct FedProducer {
     pub closed: ClosedProducer,
     /// Why it was not fed all of its stream; `None` if it was.
     pub fault: Option<FeedFault>,
+    /// What its thread told by.
+    pub telling: Telling,
 }
 
-/// What a producer's thread was given, for proofs only: the producer, its reader and the index.
+/// What a producer's thread was given, for proofs only: the producer, its reader, the index, and what
+/// it tells by.
 #[derive(Drop)]
 pub struct FedPromise<S> {
     /// The producer.
@@ -37,14 +41,18 @@ pub struct FedPromise<S> {
     pub reader: Snapshot<Option<S>>,
     /// The index of operations that do not name one.
     pub index: Snapshot<Option<String>>,
+    /// What it tells by.
+    pub telling: Snapshot<Telling>,
 }
 
 impl<S: ByteIn> Promise<FedProducer> for FedPromise<S> {
     ghost use Rattle.std.specs.Prelude.{option_map, string_bytes};
-    ghost use Rattle.relay_run.specs.Readers.{IsFed};
+    ghost use Rattle.relay_run.specs.Readers.{IsFed, EndsTelling};
 
     ghost kept_by = { λ p end. IsFed S.left S.failed (option_map string_bytes p.index.value)
-        p.reader.value p.producer.value end.closed end.fault };
+        p.reader.value p.producer.value end.closed end.fault
+        × EndsTelling S.left S.failed (option_map string_bytes p.index.value)
+        p.reader.value p.producer.value p.telling.value end.telling end.fault };
 }
 
 /// A producer in its thread.
@@ -110,8 +118,11 @@ fn run_producer<R: Wait, S: ByteIn + Drop>(
     stop: Option<SharedStop>,
     telling: Telling,
 ) -> FedProducer
-    ensures { IsFed S.left S.failed (option_map string_bytes index) reader producer result.closed
+    ensures fed { IsFed S.left S.failed (option_map string_bytes index) reader producer
+        result.closed
         result.fault }
+    ensures told { EndsTelling S.left S.failed (option_map string_bytes index) reader producer
+        telling result.telling result.fault }
 {
     let mut producer = producer;
     let mut telling = telling;
@@ -124,9 +135,11 @@ fn run_producer<R: Wait, S: ByteIn + Drop>(
         &stop,
         &mut telling,
     );
+    telling.flush(rt);
     FedProducer {
         closed: producer.close(rt),
         fault,
+        telling,
     }
 }
 
@@ -148,16 +161,49 @@ where
     ensures producer { IfOk result (λ h. h.promise.producer.value ≡ producer) }
     ensures reader { IfOk result (λ h. h.promise.reader.value ≡ reader) }
     ensures index { IfOk result (λ h. h.promise.index.value ≡ index) }
+    ensures telling { IfOk result (λ h. h.promise.telling.value ≡ telling) }
 {
     let promise = FedPromise {
         producer: Snapshot::of(&producer),
         reader: Snapshot::of(&reader),
         index: Snapshot::of(&index),
+        telling: Snapshot::of(&telling),
     };
     Ok(thread::spawn_with(&rt, promise, move || {
         let _ended = ended;
         run_producer(&rt, alloc, reader, index, producer, stop, telling)
     })?)
+}
+
+// Starts that thread with copies of its own of what all of them are given. `Memory`: an allocation for
+// these failed. `Thread`: it could not be started.
+fn start_producer<R, S>(
+    rt: R,
+    alloc: Global,
+    reader: Option<S>,
+    index: Option<&str>,
+    producer: Producer,
+    stop: &Option<SharedStop>,
+    telling: Telling,
+    ended: &Sender<(), Global>,
+) -> Result<FedThread<S>, StartFault>
+where
+    R: Threads + Wait + Copy + Send + 'static,
+    S: ByteIn + Drop + Send + 'static,
+    ensures producer { IfOk result (λ h. h.promise.producer.value ≡ producer) }
+    ensures reader { IfOk result (λ h. h.promise.reader.value ≡ reader) }
+    ensures index { IfOk result
+        (λ h. option_map string_bytes h.promise.index.value ≡ bytes_given index.entry) }
+    ensures telling { IfOk result (λ h. h.promise.telling.value ≡ telling) }
+    ensures fault { IfErr result (λ e. (e ≡ StartFault.Memory) ⊎ (e ≡ StartFault.Thread)) }
+{
+    let own = own_text(alloc, index)?;
+    let stop = share_stop(stop)?;
+    let ended = ended.clone()?;
+    match spawn_producer(rt, alloc, reader, own, producer, stop, telling, ended) {
+        Ok(thread) => Ok(thread),
+        Err(_) => Err(StartFault::Thread),
+    }
 }
 
 /// An owned copy of a text, if there is one.
@@ -171,7 +217,7 @@ pub(crate) fn own_text(alloc: Global, text: Option<&str>) -> Result<Option<Strin
 }
 
 /// Starts a thread for each producer, which puts the operations of the reader at its position, if
-/// there is one, and closes, unless the run is to stop before. Operations without an index name get
+/// there is one, tells by what is at its position, and closes, unless the run is to stop before. Operations without an index name get
 /// this index, if one is given. Each thread drops its clone of `ended` at its end. `Memory`: an allocation for what a thread is given
 /// failed. `Thread`: one could not be started. Threads that were started then continue.
 pub(crate) fn spawn_producers<R, S>(
@@ -181,12 +227,14 @@ pub(crate) fn spawn_producers<R, S>(
     index: Option<&str>,
     producers: Vec<Producer>,
     stop: &Option<SharedStop>,
-    settling: &Option<SharedSettling>,
+    tellings: Vec<Telling>,
     ended: Sender<(), Global>,
 ) -> Result<Vec<FedThread<S>>, StartFault>
 where
     R: Threads + Wait + Copy + Send + 'static,
     S: ByteIn + Drop + Send + 'static,
+    requires tellings { vec_len tellings ≡ vec_len producers }
+    ensures tellings { IfOk result (λ v. map telling_of v.items ≡ tellings.items) }
     ensures given { IfOk result
         (λ v. map given_to v.items
         ≡ all_given (bytes_given index.entry) readers.items producers.items) }
@@ -194,45 +242,41 @@ where
 {
     let mut threads = Vec::new(alloc);
     let mut readers = readers.into_iter();
+    let mut tellings = tellings.into_iter();
     for producer in producers {
         let reader = readers.next().flatten();
-        let own = own_text(alloc, index)?;
-        let stop = share_stop(stop)?;
-        let telling = Telling::new(share_settling(settling)?, producer_at(threads.len()));
+        let Some(telling) = tellings.next() else {
+            return Err(StartFault::Memory);
+        };
         threads.reserve(1)?;
-        match spawn_producer(
-            rt,
-            alloc,
-            reader,
-            own,
-            producer,
-            stop,
-            telling,
-            ended.clone()?,
-        ) {
+        match start_producer(rt, alloc, reader, index, producer, stop, telling, &ended) {
             Ok(thread) => threads.push_reserved(thread),
-            Err(_) => return Err(StartFault::Thread),
+            Err(fault) => return Err(fault),
         }
     }
     Ok(threads)
 }
 
-/// Waits until each producer's thread has ended, and returns the closed producers, and why each of
-/// them was not fed everything, in order. `AllocError`: allocation failed.
+/// Waits until each producer's thread has ended, and returns the closed producers, why each of them
+/// was not fed everything, and what it told by, in order. `AllocError`: allocation failed.
 pub(crate) fn join_producers<R: Threads, S: ByteIn + Drop + Send + 'static>(
     rt: &R,
     alloc: Global,
     threads: Vec<FedThread<S>>,
-) -> Result<(Vec<ClosedProducer>, Vec<Option<FeedFault>>), AllocError>
-    ensures { IfOk result
+) -> Result<(Vec<ClosedProducer>, Vec<Option<FeedFault>>, Vec<Telling>), AllocError>
+    ensures tellers { IfOk result (λ r. map teller_of r.2.items
+        ≡ map teller_of (map telling_of threads.items)) }
+    ensures fed { IfOk result
         (λ r. AllEndFed S.left S.failed (map given_to threads.items) r.0.items r.1.items) }
 {
     let mut closed = Vec::with_capacity(alloc, threads.len())?;
     let mut faults = Vec::with_capacity(alloc, threads.len())?;
+    let mut tellings = Vec::with_capacity(alloc, threads.len())?;
     for thread in threads {
         let fed = thread.join(rt);
         closed.push(fed.closed)?;
         faults.push(fed.fault)?;
+        tellings.push(fed.telling)?;
     }
-    Ok((closed, faults))
+    Ok((closed, faults, tellings))
 }

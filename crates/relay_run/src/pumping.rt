@@ -1,6 +1,6 @@
 //! Reading a source that may wait for long, by a run that may be told to stop meanwhile.
 use crate::noting::NotedSource;
-use crate::settling::Telling;
+use crate::settling::{SharedRead, note_read};
 use crate::stopping::{SharedStop, is_stopped};
 use crossbeam_channel::{Receiver, RecvTimeoutError, Sender, bounded};
 use std::alloc::{AllocError, Global};
@@ -132,22 +132,23 @@ enum Flow<R: Wait> {
     Pumped(Pumped<R>),
 }
 
-/// A source of a run, of which it is told what is read.
+/// A source of a run, which notes what is read.
 #[derive(Drop)]
 pub(crate) struct ToldSource<R: Wait> {
     rt: R,
     flow: Flow<R>,
-    telling: Telling,
+    // Where it notes that, if it does.
+    ahead: Option<SharedRead>,
 }
 
 impl<R: Threads + Wait + Clock + Copy + Send + 'static> ToldSource<R> {
-    /// Tells what is read of a source. One that may wait is read by a thread of its own if the run may
+    /// Notes what is read of a source. One that may wait is read by a thread of its own if the run may
     /// be told to stop meanwhile. `AllocError`: allocation failed, or that could not be started.
     pub(crate) fn new(
         rt: R,
         alloc: Global,
         source: NotedSource,
-        telling: Telling,
+        ahead: Option<SharedRead>,
         waits: bool,
         stop: Option<SharedStop>,
     ) -> Result<ToldSource<R>, AllocError> {
@@ -156,7 +157,7 @@ impl<R: Threads + Wait + Clock + Copy + Send + 'static> ToldSource<R> {
         } else {
             Flow::Direct(source)
         };
-        Ok(ToldSource { rt, flow, telling })
+        Ok(ToldSource { rt, flow, ahead })
     }
 }
 
@@ -167,7 +168,7 @@ impl<R: Wait + Clock> Read for ToldSource<R> {
             Flow::Pumped(source) => source.read(buffer),
         };
         if let Ok(count) = &result {
-            self.telling.read(&self.rt, &buffer[..*count]);
+            note_read(&self.rt, &self.ahead, &buffer[..*count]);
         }
         result
     }

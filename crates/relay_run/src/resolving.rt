@@ -3,9 +3,9 @@ ghost use Rattle.std.specs.Prelude.{◌≡◌, IfOk, OnOk};
 ghost use Rattle.relay_run.specs.Resolving.{unknown_text};
 ghost use Rattle.relay_run.specs.Saying.{IsSaid};
 
-use crate::leasing::Seconds;
 use crate::saying::say;
 use relay_action::ByteOut;
+use relay_common::leasing::Seconds;
 use relay_epoch::Patience;
 use relay_words::Exit;
 use std::alloc::{AllocError, Global};

@@ -1,20 +1,29 @@
 //! Going on with the files of a run where its state says.
+ghost use Rattle.std.specs.Prelude.{◌≡◌, ◌≤◌, [], ℕ, IfOk, List, OnOk, length, map, slice_get};
+ghost use Rattle.std.specs.Prelude.{string_bytes, vec_len};
+ghost use Rattle.relay_run.specs.Marks.{bound};
+ghost use Rattle.relay_run.specs.Written.{AreRead, GivesMore, GoesBy, IsBegun, MovesOne, OpensOne};
+ghost use Rattle.relay_run.specs.Written.{StillRead};
+
 use crate::noting::{NotedSource, Opened, reason_line};
 use crate::options::RunOptions;
 use crate::saying::say;
-use crate::settling::{Settling, producer_at};
 use crate::state_file::{StateFile, StateFileFault};
 use relay_action::{ByteOut, List, Text};
 use relay_core::config::EPOCH_LIMIT;
-use relay_resume::{CHECKED_LIMIT, Changed, Found, InputState, Mark, PATH_LIMIT, State, resumes};
+use relay_keeping::MarkKeeper;
+use relay_resume::{
+    CHECKED_LIMIT, Changed, Found, InputState, Mark, PATH_LIMIT, State, resumes, seek_to,
+};
 use relay_words::{Exit, add_number};
 use sha2::{Digest, Sha256};
 use std::alloc::{AllocError, Global};
 use std::fs::File;
-use std::io::{ErrorKind, Seek, SeekFrom};
+use std::io::ErrorKind;
+use std::marker::Model;
 use std::mem;
 use std::os::unix::fs::{FileExt, MetadataExt};
-use std::sync::Wait;
+use std::snapshot::Snapshot;
 
 /// The place before the first line of an input.
 pub(crate) const START: Mark = Mark {
@@ -50,9 +59,10 @@ impl From<StateFileFault> for ResumeFault {
     }
 }
 
-/// A run that goes on: its state, and where its inputs are read from.
+/// A run that goes on: its state, and where its inputs are read from. Contracts see who reads the
+/// inputs of its state, and what was written to the file of the state.
 #[derive(Drop)]
-pub(crate) struct Resumed {
+pub struct Resumed {
     file: StateFile,
     state: State,
     // The file of the reports, if it is a regular one.
@@ -61,8 +71,27 @@ pub(crate) struct Resumed {
     producers: Vec<u32>,
     // Whether the file has the state.
     is_written: bool,
-    /// The mark of each producer's input.
-    pub starts: Vec<Mark>,
+    // The mark of each producer's input, as the run started.
+    starts: Vec<Mark>,
+    // The paths of the files, for proofs only.
+    files: Snapshot<Vec<String>>,
+}
+
+impl Model for Resumed {
+    ghost use Rattle.std.specs.Prelude.{map, string_bytes};
+    ghost use Rattle.relay_run.specs.Written.{Resuming};
+
+    ghost Value = { Resuming };
+
+    ghost view = { λ r. record {
+      reads = record {
+        producers = r.producers.items;
+        files = map string_bytes r.files.value.items;
+      };
+      inputs = r.state.inputs;
+      starts = r.starts.items;
+      written = r.file;
+    } };
 }
 
 // The bytes at the start of a file that its digest is of.
@@ -93,7 +122,9 @@ fn input_of(
     path: &str,
     file: &File,
     mark: Mark,
-) -> Result<InputState, ResumeFault> {
+) -> Result<InputState, ResumeFault>
+    ensures { IfOk result (λ i. (i.path ≡ path.now) × (i.mark ≡ mark)) }
+{
     let Ok(found) = found_of(file, CHECKED_LIMIT) else {
         return Err(ResumeFault::Device(place));
     };
@@ -131,8 +162,8 @@ fn mark_of(
         Ok(mark) => mark,
         Err(changed) => return Err(ResumeFault::Changed(place, changed)),
     };
-    match file.seek(SeekFrom::Start(mark.offset)) {
-        Ok(_) => Ok(mark),
+    match seek_to(file, mark) {
+        Ok(()) => Ok(mark),
         Err(_) => Err(ResumeFault::Device(place)),
     }
 }
@@ -154,7 +185,11 @@ impl Inputs {
         path: &str,
         source: &mut NotedSource,
         old: Option<&State>,
-    ) -> Result<(), ResumeFault> {
+    ) -> Result<(), ResumeFault>
+        requires { vec_len self.old.starts ≡ place }
+        ensures { OnOk result (OpensOne place path.now self.old.producers.items self.new.producers.items
+            self.old.inputs.items self.new.inputs.items self.old.starts.items self.new.starts.items) }
+    {
         let Some(file) = source.regular_file() else {
             return Ok(self.push_start(START)?);
         };
@@ -165,18 +200,33 @@ impl Inputs {
             },
             None => None,
         };
+        let Ok(producer) = u32::try_from(place) else {
+            return Err(ResumeFault::Places);
+        };
         let mark = mark_of(place, path, file, then)?;
         let input = input_of(alloc, place, path, file, mark)?;
-        Ok(self.push(input, producer_at(place))?)
+        Ok(self.push(input, producer)?)
     }
 
-    fn push(&mut self, input: InputState, producer: u32) -> Result<(), AllocError> {
-        self.push_start(input.mark)?;
+    // The input of this producer is one of the state.
+    fn push(&mut self, input: InputState, producer: u32) -> Result<(), AllocError>
+        requires { vec_len self.old.starts ≡ producer }
+        ensures { OnOk result (OpensOne producer input.path self.old.producers.items
+            self.new.producers.items self.old.inputs.items self.new.inputs.items
+            self.old.starts.items self.new.starts.items) }
+    {
+        self.starts.push(input.mark)?;
         self.producers.push(producer)?;
         Ok(self.inputs.push(input)?)
     }
 
-    fn push_start(&mut self, start: Mark) -> Result<(), AllocError> {
+    // The next input is not.
+    fn push_start(&mut self, start: Mark) -> Result<(), AllocError>
+        ensures { OnOk result ((path : List ℕ) → OpensOne (vec_len self.old.starts) path
+            self.old.producers.items self.new.producers.items
+            self.old.inputs.items self.new.inputs.items self.old.starts.items
+            self.new.starts.items) }
+    {
         Ok(self.starts.push(start)?)
     }
 }
@@ -187,7 +237,13 @@ fn inputs_of(
     paths: &[String],
     sources: &mut [Opened],
     old: Option<&State>,
-) -> Result<Inputs, ResumeFault> {
+) -> Result<Inputs, ResumeFault>
+    ensures count { IfOk result (λ i. vec_len i.starts ≤ length paths.now) }
+    ensures read { IfOk result (λ i. AreRead (record {
+      producers = i.producers.items;
+      files = map string_bytes paths.now;
+    }) i.starts.items [] i.inputs.items) }
+{
     let mut inputs = Inputs {
         inputs: Vec::new(alloc),
         producers: Vec::new(alloc),
@@ -230,10 +286,15 @@ pub(crate) fn resume(
     alloc: Global,
     file: StateFile,
     report: Option<File>,
-    paths: &[String],
+    paths: &Vec<String>,
     sources: &mut [Opened],
     least: u32,
-) -> Result<Resumed, ResumeFault> {
+) -> Result<Resumed, ResumeFault>
+    requires { file ≡ [] }
+    ensures begun { IfOk result IsBegun }
+    ensures files { IfOk result (λ r. r.reads.files ≡ map string_bytes paths.now.items) }
+{
+    let mut file = file;
     let old = file.read(alloc)?;
     let inputs = inputs_of(alloc, paths, sources, old.as_ref())?;
     let Inputs {
@@ -245,7 +306,7 @@ pub(crate) fn resume(
         epoch: next_epoch(old.as_ref(), least)?,
         inputs: List::of(inputs),
     };
-    file.replace(alloc, &state)?;
+    file.replace(alloc, &state, &None)?;
     Ok(Resumed {
         file,
         state,
@@ -253,6 +314,7 @@ pub(crate) fn resume(
         producers,
         is_written: true,
         starts,
+        files: Snapshot::of(paths),
     })
 }
 
@@ -267,40 +329,101 @@ impl Resumed {
         self.file.path()
     }
 
+    /// Where the input of the producer at this place is read from, if it is known.
+    pub(crate) fn start(&self, place: usize) -> Option<Mark>
+        ensures { result ≡ slice_get self.now.starts place }
+    {
+        match self.starts.get(place) {
+            Some(start) => Some(*start),
+            None => None,
+        }
+    }
+
     // Sets the marks to how far the inputs are settled.
-    fn move_marks<R: Wait>(&mut self, rt: &R, alloc: Global, settling: &Settling) {
+    fn move_marks(&mut self, alloc: Global, marks: &mut MarkKeeper)
+        requires { GoesBy marks.old self.old }
+        ensures goes { GoesBy marks.new self.new }
+        ensures same { self.new ≡ record self.old { inputs = self.new.inputs } }
+        ensures bound { bound marks.new ≡ bound marks.old }
+    {
         let none = List::of(Vec::new(alloc));
         let mut inputs = mem::replace(&mut self.state.inputs, none).into_vec();
-        for place in 0..inputs.len().min(self.producers.len()) {
-            if let Some(mark) = settling.mark(rt, self.producers[place]) {
-                self.is_written = self.is_written && mark == inputs[place].mark;
-                inputs[place].mark = mark;
-            }
-        }
+        let stay = move_all(&mut inputs, &self.producers, marks);
+        self.is_written = self.is_written && stay;
         self.state.inputs = List::of(inputs);
     }
 
     /// Writes how far the inputs are settled to the file of the state, unless it says so. The reports are
     /// synchronized before that.
-    pub(crate) fn save<R: Wait>(
+    pub(crate) fn save(
         &mut self,
-        rt: &R,
         alloc: Global,
-        settling: &Settling,
-    ) -> Result<(), StateFileFault> {
-        self.move_marks(rt, alloc, settling);
+        marks: &mut MarkKeeper,
+    ) -> Result<(), StateFileFault>
+        requires { GoesBy marks.old self.old }
+        ensures goes { GoesBy marks.new self.new }
+        ensures same { (self.new.reads ≡ self.old.reads) × (self.new.starts ≡ self.old.starts) }
+        ensures bound { bound marks.new ≡ bound marks.old }
+    {
+        self.move_marks(alloc, marks);
         if self.is_written {
             return Ok(());
         }
-        if let Some(report) = &self.report {
-            if let Err(error) = report.sync_data() {
-                return Err(StateFileFault::Device(error.kind()));
-            }
+        self.sync_report()?;
+        self.write(alloc, marks)
+    }
+
+    // Synchronizes the reports.
+    fn sync_report(&self) -> Result<(), StateFileFault> {
+        let Some(report) = &self.report else {
+            return Ok(());
+        };
+        match report.sync_data() {
+            Ok(()) => Ok(()),
+            Err(error) => Err(StateFileFault::Device(error.kind())),
         }
-        self.file.replace(alloc, &self.state)?;
+    }
+
+    // Writes the state, by what the keeper has given.
+    fn write(&mut self, alloc: Global, marks: &MarkKeeper) -> Result<(), StateFileFault>
+        requires { GoesBy marks.now self.old }
+        ensures goes { GoesBy marks.now self.new }
+        ensures same { (self.new.reads ≡ self.old.reads) × (self.new.starts ≡ self.old.starts) }
+    {
+        let then = Some(Snapshot::of(marks));
+        self.file.replace(alloc, &self.state, &then)?;
         self.is_written = true;
         Ok(())
     }
+}
+
+// Sets the mark of the input that this producer reads to how far it is settled, if the keeper knows
+// that. Returns whether it stays.
+fn move_one(input: &mut InputState, producer: u32, marks: &mut MarkKeeper) -> bool
+    ensures moves { MovesOne producer input.old.mark input.new.mark marks.old marks.new }
+    ensures path { input.new.path ≡ input.old.path }
+{
+    match marks.mark(producer) {
+        Some(mark) => {
+            let stays = mark == input.mark;
+            input.mark = mark;
+            stays
+        }
+        None => true,
+    }
+}
+
+// Does so for all inputs that these producers read. Returns whether all marks stay.
+fn move_all(inputs: &mut Vec<InputState>, producers: &[u32], marks: &mut MarkKeeper) -> bool
+    ensures read { StillRead producers.now marks.old marks.new inputs.old.items inputs.new.items }
+    ensures marks { GivesMore marks.old marks.new }
+{
+    let mut stay = true;
+    for place in 0..inputs.len().min(producers.len()) {
+        let stays = move_one(&mut inputs[place], producers[place], marks);
+        stay = stay && stays;
+    }
+    stay
 }
 
 // What is said of a fault, after the name of the file that it is about.

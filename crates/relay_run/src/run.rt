@@ -1,6 +1,6 @@
 //! Sending readers of operations through a relay.
 ghost use Rattle.std.specs.Prelude.{◌≡◌, ◌≢◌, ◌⊎◌, ◌↔◌, [], ℕ, List, IfOk, IfErr, IsErrAnd};
-ghost use Rattle.std.specs.Prelude.{Ok, Err, false, true, vec_len};
+ghost use Rattle.std.specs.Prelude.{Ok, Err, false, true, map, vec_len};
 ghost use Rattle.relay_core.specs.Limits.{is_valid};
 ghost use Rattle.relay_ndjson.specs.Metadata.{bytes_given};
 ghost use Rattle.relay_ndjson.specs.Operations.{Operation};
@@ -9,18 +9,20 @@ ghost use Rattle.relay_producer.specs.declared.ends.ClosedEnd.{ClosedEnd};
 ghost use Rattle.relay_threads.specs.Relay.{NoneOut};
 ghost use Rattle.relay_threads.specs.DeliveryOfAll.{AllDelivered};
 ghost use Rattle.relay_threads.specs.Together.{AreDeliveredTogether};
-ghost use Rattle.relay_run.specs.Saving.{AreNew, AllSave, SayFailed};
-ghost use Rattle.relay_run.specs.Readers.{named_ops, AreFedFrom};
+ghost use Rattle.relay_common.specs.Putting.{named_ops};
+ghost use Rattle.relay_run.specs.Saving.{AreNew, AllSave, SayFailed, seat_of};
+ghost use Rattle.relay_run.specs.Settling.{teller_of};
+ghost use Rattle.relay_run.specs.Readers.{AreFedFrom};
 
 use crate::feed::FeedFault;
 use crate::producing::{join_producers, spawn_producers};
-use crate::settling::SharedSettling;
+use crate::settling::Telling;
 use crate::stopping::SharedStop;
 use crate::telling::{SavingTell, have_failed};
-use crate::ticking::tick_until_ended;
 use crossbeam_channel::bounded;
 use relay_action::{ByteIn, ByteOut};
 pub use relay_batch::Limits;
+use relay_common::ticking::tick_until_ended;
 pub use relay_lane::RelayConfig;
 use relay_lane::{Pace, Wire};
 use relay_threads::{FinishFault, Relay, StartFault, Summary};
@@ -40,6 +42,8 @@ pub struct Ran<W, F: ByteOut> {
     pub tells: Vec<SavingTell<F>>,
     /// Whether a write of a report failed for one of these.
     pub unsaved: bool,
+    /// What each producer's thread told by, by producer.
+    pub inputs: Vec<Telling>,
 }
 
 /// Starts a relay, has each producer put the operations of the reader at its position, if there is
@@ -58,6 +62,9 @@ pub struct Ran<W, F: ByteOut> {
 /// summary, the file of each lane was given the lines of exactly the reports of that lane, those of
 /// each producer in their order, unless a write failed.
 ///
+/// Each producer's thread tells by what is at its position where the operations end that it puts. What
+/// the threads told by is passed back at the end, with the ends of the channel that it had.
+///
 /// `StartFault`: `BadConfig` if the config is not valid, `WireCount` if there is not one wire, one
 /// pace and one such teller for each lane; then nothing was started. `Thread`: a thread could not be started;
 /// `Memory`: an allocation for what the threads are given failed. Threads that were started then
@@ -72,7 +79,7 @@ pub fn run<R, W, P, S, F>(
     readers: Vec<Option<S>>,
     index: Option<&str>,
     stop: &Option<SharedStop>,
-    settling: &Option<SharedSettling>,
+    inputs: Vec<Telling>,
 ) -> Result<Ran<W, F>, StartFault>
 where
     R: Threads + Wait + Clock + Copy + Send + 'static,
@@ -82,6 +89,7 @@ where
     F: ByteOut + Drop + Send + 'static,
     requires out { NoneOut W.out wires.items }
     requires new { AreNew tells.items }
+    requires inputs { vec_len inputs ≡ config.producers }
     ensures count { IfOk result (λ r. vec_len r.faults ≡ config.producers) }
     ensures bad_config { IsErrAnd result (λ e. e ≡ StartFault.BadConfig)
         ↔ (is_valid config ≡ false) }
@@ -101,14 +109,18 @@ where
         wires.items s.lanes.items)) }
     ensures saved { IfOk result (λ r. IfOk r.end (λ s. AllSave r.tells.items s.lanes.items)) }
     ensures unsaved { IfOk result (λ r. SayFailed r.tells.items r.unsaved) }
+    ensures tellers { IfOk result (λ r. map teller_of r.inputs.items
+        ≡ map teller_of inputs.items) }
+    ensures seats { IfOk result (λ r. IfOk r.end (λ _. map seat_of r.tells.items
+        ≡ map seat_of tells.items)) }
 {
     let (relay, producers, mut control) = Relay::start_telling(
         rt, alloc, config, wires, paces, tells,
     )?;
     let (ended, waiting) = bounded(alloc, 1)?;
-    let threads = spawn_producers(rt, alloc, readers, index, producers, stop, settling, ended)?;
+    let threads = spawn_producers(rt, alloc, readers, index, producers, stop, inputs, ended)?;
     tick_until_ended(&rt, &waiting, &mut control);
-    let (closed, faults) = join_producers(&rt, alloc, threads)?;
+    let (closed, faults, inputs) = join_producers(&rt, alloc, threads)?;
     let control = control.close(&rt);
     let (end, tells) = apart(alloc, relay.finish_telling(&rt, closed, control));
     let unsaved = have_failed(&tells);
@@ -117,6 +129,7 @@ where
         end,
         tells,
         unsaved,
+        inputs,
     })
 }
 

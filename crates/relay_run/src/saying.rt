@@ -3,11 +3,12 @@ ghost use Rattle.std.specs.Prelude.{◌≡◌, ◌++◌, ℕ, List, IfOk, OnOk, 
 ghost use Rattle.std.specs.Prelude.{is_some, length, map, string_bytes, vec_len};
 ghost use Rattle.std.specs.Io.KnownBytes.{append_known};
 ghost use Rattle.relay_action.specs.Streams.{FailedSince};
+ghost use Rattle.relay_common.specs.Counts.{total};
 ghost use Rattle.relay_run.specs.Faults.{worse, file_fault, said_of, worse_by, faults_text};
 ghost use Rattle.relay_run.specs.Faults.{exit_of_files};
 ghost use Rattle.relay_run.specs.Resuming.{told_fault};
 ghost use Rattle.relay_run.specs.Saying.{IsSaid, exit_of_finish, SaysSummary, Concludes};
-ghost use Rattle.relay_run.specs.Outcomes.{start_fault_text, kind_name, finish_fault_text, total};
+ghost use Rattle.relay_run.specs.Outcomes.{start_fault_text, kind_name, finish_fault_text};
 ghost use Rattle.relay_run.specs.Outcomes.{reports_of, exit_of_reports, TellsOf};
 
 use crate::faults::{FileFault, add_file_fault, exit_of_file, worse};
@@ -328,6 +329,7 @@ fn conclude<W: Drop, F: ByteOut + Drop, O: ByteOut, E: ByteOut>(
         end,
         tells: _,
         unsaved: _,
+        inputs: _,
     } = ran;
     let (text, exit) = faults_text(alloc, files, opened, &faults, beneath)?;
     let _ = say(err, &text);

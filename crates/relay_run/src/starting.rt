@@ -1,6 +1,7 @@
 //! Opening what a run reads and writes, before anything is sent.
-ghost use Rattle.std.specs.Prelude.{◌≡◌, IfOk, vec_len};
+ghost use Rattle.std.specs.Prelude.{◌≡◌, [], IfOk, IfSome, map, string_bytes, vec_len};
 ghost use Rattle.relay_run.specs.ReportFile.{AreNewHandles};
+ghost use Rattle.relay_run.specs.Written.{BeginsAt};
 
 use crate::noting::Opened;
 use crate::opening::open_files;
@@ -153,7 +154,9 @@ fn take_state(
     host: HostRuntime,
     alloc: Global,
     options: &RunOptions,
-) -> Result<Option<StateFile>, StateFileFault> {
+) -> Result<Option<StateFile>, StateFileFault>
+    ensures { IfOk result (λ o. IfSome o (λ f. f ≡ [])) }
+{
     match &options.state {
         Some(path) => Ok(Some(StateFile::lock(host, alloc, path.as_str())?)),
         None => Ok(None),
@@ -167,7 +170,10 @@ fn resume_from(
     state: Option<StateFile>,
     report: Option<File>,
     sources: &mut [Opened],
-) -> Result<Option<Resumed>, ResumeFault> {
+) -> Result<Option<Resumed>, ResumeFault>
+    requires { IfSome state (λ f. f ≡ []) }
+    ensures { IfOk result (BeginsAt (map string_bytes options.now.files.items)) }
+{
     match state {
         Some(state) => {
             let least = options.config.epoch;
@@ -185,9 +191,11 @@ fn go_on(
     outputs: Outputs,
     sources: Vec<Opened>,
 ) -> Result<Devices, OpenFault>
-    requires { AreNewHandles outputs.reports.handles.items }
+    requires handles { AreNewHandles outputs.reports.handles.items }
+    requires state { IfSome state (λ f. f ≡ []) }
     ensures handles { IfOk result (λ d. AreNewHandles d.handles.items) }
     ensures sources { IfOk result (λ d. vec_len d.sources ≡ vec_len sources) }
+    ensures begun { IfOk result (λ d. BeginsAt (map string_bytes options.now.files.items) d.resumed) }
 {
     let Outputs { reports, leaving } = outputs;
     let Reports { file, handles } = reports;
@@ -210,6 +218,7 @@ pub(crate) fn open_devices(
 ) -> Result<Devices, OpenFault>
     ensures handles { IfOk result (λ d. AreNewHandles d.handles.items) }
     ensures sources { IfOk result (λ d. vec_len d.sources ≡ vec_len options.now.files) }
+    ensures begun { IfOk result (λ d. BeginsAt (map string_bytes options.now.files.items) d.resumed) }
 {
     let state = take_state(host, alloc, options)?;
     let outputs = open_outputs(&host, alloc, options)?;

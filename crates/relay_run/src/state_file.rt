@@ -1,10 +1,18 @@
 //! The file in which a run keeps its state.
+ghost use Rattle.std.specs.Prelude.{◌≡◌, [], IfOk};
+ghost use Rattle.relay_resume.specs.Texts.{state_text};
+ghost use Rattle.relay_run.specs.Written.{MayWrite, and_written, past_if};
+
+use http_server::Log;
 use relay_action::Text;
+use relay_keeping::MarkKeeper;
 use relay_resume::{State, StateFault, read_state, write_state};
 use relay_words::{add_number, number_of};
 use std::alloc::{AllocError, Global};
 use std::fs::{File, OpenOptions, TryLockError};
 use std::io::{ErrorKind, Read, Write};
+use std::marker::Model;
+use std::snapshot::Snapshot;
 use std::{fs, process};
 
 /// Why the state of a run cannot be used. Nothing was sent.
@@ -29,7 +37,11 @@ impl From<AllocError> for StateFileFault {
     }
 }
 
-/// The file of a state. No other run has it until this is dropped, or the process ends.
+/// A keeper of marks as it is when a state is written, for proofs only, if there is one by then.
+pub(crate) type KeeperThen = Option<Snapshot<MarkKeeper>>;
+
+/// The file of a state. No other run has it until this is dropped, or the process ends. Contracts see
+/// what was written to it.
 #[derive(Drop)]
 pub(crate) struct StateFile {
     host: HostRuntime,
@@ -40,6 +52,20 @@ pub(crate) struct StateFile {
     folder: String,
     // It is locked.
     _lock: File,
+    // The texts that were written to it, each with the keeper of marks by then, for proofs only.
+    written: Log<Vec<u8>, KeeperThen>,
+}
+
+impl Model for StateFile {
+    ghost use Rattle.std.specs.Prelude.{List, map};
+    ghost use Rattle.relay_run.specs.Written.{Written, past_if};
+
+    ghost Value = { List Written };
+
+    ghost view = { λ f. map (λ x. record {
+      text = x.0.items;
+      past = past_if (λ s. s.value) x.1;
+    }) f.written.items };
 }
 
 // A name with this after it.
@@ -108,7 +134,9 @@ impl StateFile {
         host: HostRuntime,
         alloc: Global,
         path: &str,
-    ) -> Result<StateFile, StateFileFault> {
+    ) -> Result<StateFile, StateFileFault>
+        ensures { IfOk result (λ f. f ≡ []) }
+    {
         let name = with_end(alloc, path, ".lock")?;
         let lock = lock(&host, alloc, name.as_str())?;
         Ok(StateFile {
@@ -117,6 +145,7 @@ impl StateFile {
             beside: with_end(alloc, path, ".new")?,
             folder: folder_of(alloc, path)?,
             _lock: lock,
+            written: Log::new(),
         })
     }
 
@@ -144,16 +173,25 @@ impl StateFile {
 
     /// Replaces what it holds by this state. It holds the old one or the new one at any moment, and the
     /// new one once this returns, also after a loss of power.
-    pub(crate) fn replace(&self, alloc: Global, state: &State) -> Result<(), StateFileFault> {
+    pub(crate) fn replace(
+        &mut self,
+        alloc: Global,
+        state: &State,
+        then: &KeeperThen,
+    ) -> Result<(), StateFileFault>
+        ensures { MayWrite (state_text state.now) (past_if (λ s. s.value) then.now) self.old self.new }
+    {
         let text = write_state(alloc, state)?;
-        match self.replace_text(&text) {
+        match self.replace_text(&text, then) {
             Ok(()) => Ok(()),
             Err(error) => Err(StateFileFault::Device(error)),
         }
     }
 
-    fn replace_text(&self, text: &[u8]) -> Result<(), ErrorKind> {
-        self.write_beside(text)?;
+    fn replace_text(&mut self, text: &Vec<u8>, then: &KeeperThen) -> Result<(), ErrorKind>
+        ensures { self.new ≡ and_written text.now.items (past_if (λ s. s.value) then.now) self.old }
+    {
+        self.write_beside(text, then)?;
         fs::rename(&self.host, self.beside.as_str(), self.path.as_str()).map_err(
             |error| error.kind(),
         )?;
@@ -164,8 +202,11 @@ impl StateFile {
         Ok(())
     }
 
-    // Writes this beside it, and synchronizes it.
-    fn write_beside(&self, text: &[u8]) -> Result<(), ErrorKind> {
+    // Writes this beside it, and synchronizes it. It counts as written even if that fails.
+    fn write_beside(&mut self, text: &Vec<u8>, then: &KeeperThen) -> Result<(), ErrorKind>
+        ensures { self.new ≡ and_written text.now.items (past_if (λ s. s.value) then.now) self.old }
+    {
+        self.written = self.written.and(text, then);
         let mut file = File::create(&self.host, self.beside.as_str()).map_err(
             |error| error.kind(),
         )?;

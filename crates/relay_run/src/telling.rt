@@ -1,15 +1,16 @@
 //! What a lane of a run tells by: it saves each report as soon as it arises.
 ghost use Rattle.std.specs.Prelude.{◌≡◌, ◌++◌, ◌∷◌, [], IfOk, OnErr, map, true, vec_len};
+ghost use Rattle.relay_keeping.specs.Tellers.{seat};
 ghost use Rattle.relay_run.specs.Saving.{IsExactly, KeepsOneMore, GoesOn, AreUnwritten, AreNew};
-ghost use Rattle.relay_run.specs.Saving.{AllGoOnFrom, AllKeep, SayFailed};
+ghost use Rattle.relay_run.specs.Saving.{AllGoOnFrom, AllKeep, AreUntold, SayFailed, lane_seat, seat_of};
 
 use crate::numbering::Numbering;
 use crate::saying::say;
-use crate::settling::{LaneTelling, SharedSettling, share_settling};
 use crate::stopping::{SharedStop, share_stop};
 use http_server::Log;
 use relay_action::ByteOut;
 use relay_core::{Report, Success};
+use relay_keeping::LaneTelling;
 use relay_report::append_report;
 use relay_threads::Tell;
 use std::alloc::{AllocError, Global};
@@ -39,6 +40,7 @@ pub struct SavingTell<P: ByteOut> {
 
 impl<P: ByteOut> Model for SavingTell<P> {
     ghost use Rattle.std.specs.Prelude.{map};
+    ghost use Rattle.relay_keeping.specs.Tellers.{seat};
     ghost use Rattle.relay_run.specs.Saving.{Saver, KeepsAll};
 
     ghost Value = { Saver };
@@ -50,12 +52,13 @@ impl<P: ByteOut> Model for SavingTell<P> {
       before = t.numbering.before;
       applied = map (λ x. x.0) t.applied.items;
       reported = map (λ x. x.0) t.reported.items;
-      settled = t.settled;
+      settled = record { applied = t.settled.applied; saved = t.settled.saved };
+      via = seat t.settled.end;
     } };
 
     ghost invariant = { λ t. KeepsAll t.failed (P.written t.file) (P.failed t.file)
         t.numbering.before (map (λ x. x.0) t.applied.items) (map (λ x. x.0) t.reported.items)
-        t.settled };
+        (record { applied = t.settled.applied; saved = t.settled.saved }) };
 }
 
 impl<P: ByteOut> SavingTell<P> {
@@ -67,18 +70,20 @@ impl<P: ByteOut> SavingTell<P> {
         file: P,
         numbering: Numbering,
         stop: Option<SharedStop>,
-        settling: Option<SharedSettling>,
+        settled: LaneTelling,
     ) -> SavingTell<P>
-        requires { IsExactly (P.written file) [] × (P.failed file ≡ 0) }
+        requires file { IsExactly (P.written file) [] × (P.failed file ≡ 0) }
+        requires settled { (settled.applied ≡ []) × (settled.saved ≡ []) }
         ensures new { (result.applied ≡ []) × (result.reported ≡ []) }
         ensures before { result.before ≡ numbering.before }
+        ensures via { result.via ≡ seat settled.end }
     {
         SavingTell {
             alloc,
             file,
             failed: false,
             stop,
-            settled: LaneTelling::new(settling),
+            settled,
             numbering,
             applied: Log::new(),
             reported: Log::new(),
@@ -102,16 +107,29 @@ impl<P: ByteOut> SavingTell<P> {
     }
 }
 
+impl<P: ByteOut + Drop> SavingTell<P> {
+    ghost use Rattle.relay_run.specs.Safe.{IsLaneOf};
+
+    /// What it told by which operations are settled.
+    pub(crate) fn into_settled(self) -> LaneTelling
+        ensures via { seat result.end ≡ self.via }
+        ensures lane { IsLaneOf self result }
+    {
+        self.settled
+    }
+}
+
 impl<P: ByteOut> Tell for SavingTell<P> {
     ghost use Rattle.std.specs.Prelude.{ℕ, List};
     ghost use Rattle.relay_run.specs.Saving.{told_by};
+    ghost use Rattle.relay_run.specs.Settling.{Seat};
 
     ghost told = { λ t p. told_by t p };
 
-    // How the operations are numbered in the reports.
-    ghost Destination = { List ℕ };
+    // How the operations are numbered in the reports, and the end by which it tells what is settled.
+    ghost Destination = { List ℕ × Seat };
 
-    ghost destination = { λ t. t.before };
+    ghost destination = { λ t. (t.before, t.via) };
 
     fn applied<R: Wait>(&mut self, rt: &R, successes: &[Success]) {
         if let Some(stop) = &self.stop {
@@ -168,25 +186,32 @@ fn save<P: ByteOut>(
 }
 
 /// For each of these files, to which nothing was written yet, what a lane tells by that saves its
-/// reports there, and tells the stop of them. Its operations are named by this numbering there.
+/// reports there, and tells the stop of them, and by what is at its position which operations are
+/// settled. Its operations are named by this numbering there.
 /// `AllocError`: allocation failed.
 pub fn make_tells<P: ByteOut + Drop>(
     alloc: Global,
     files: Vec<P>,
     numbering: Numbering,
     stop: &Option<SharedStop>,
-    settling: &Option<SharedSettling>,
+    settled: Vec<LaneTelling>,
 ) -> Result<Vec<SavingTell<P>>, AllocError>
-    requires { AreUnwritten P.written P.failed files.items }
+    requires files { AreUnwritten P.written P.failed files.items }
+    requires settled { AreUntold settled.items }
+    requires lanes { vec_len settled ≡ vec_len files }
     ensures count { IfOk result (λ v. vec_len v ≡ vec_len files) }
+    ensures seats { IfOk result (λ v. map seat_of v.items ≡ map lane_seat settled.items) }
     ensures new { IfOk result (λ v. AreNew v.items) }
     ensures before { IfOk result (λ v. AllGoOnFrom numbering.before v.items) }
 {
     let mut tells = Vec::with_capacity(alloc, files.len())?;
+    let mut settled = settled.into_iter();
     for file in files {
         let stop = share_stop(stop)?;
-        let settling = share_settling(settling)?;
-        tells.push(SavingTell::new(alloc, file, numbering, stop, settling))?;
+        let Some(settled) = settled.next() else {
+            return Err(AllocError);
+        };
+        tells.push(SavingTell::new(alloc, file, numbering, stop, settled))?;
     }
     Ok(tells)
 }

@@ -1,11 +1,12 @@
 //! Running until everything is done, or until there is no more use in waiting for that.
 ghost use Rattle.std.specs.Prelude.{◌≡◌, IfOk, IfSome, vec_len};
+ghost use Rattle.relay_run.specs.Markings.{EndsAsTold};
 ghost use Rattle.relay_threads.specs.Relay.{NoneOut};
 ghost use Rattle.relay_run.specs.Saving.{AreNew};
 
 use crate::producing::own_text;
 use crate::run::{Ran, run};
-use crate::settling::{SharedSettling, share_settling};
+use crate::settling::Telling;
 use crate::stopping::{SharedStop, share_stop};
 use crate::telling::SavingTell;
 use crossbeam_channel::{Receiver, RecvTimeoutError, Sender, bounded};
@@ -14,6 +15,7 @@ use relay_lane::{Pace, RelayConfig, Wire};
 use relay_threads::StartFault;
 use std::alloc::{AllocError, Global};
 use std::marker::Model;
+use std::snapshot::Snapshot;
 use std::sync::Wait;
 use std::thread;
 use std::thread::{Promise, Threads};
@@ -22,20 +24,25 @@ use std::time::{Clock, Duration, Instant};
 // The time between two looks, in milliseconds.
 const LOOK: u64 = 100;
 
-/// How many producers a run in a thread of its own has, for proofs.
-#[derive(Clone, Copy, Drop)]
-pub(crate) struct RanPromise {
+/// How many producers a run in a thread of its own has, and what its threads tell by, for proofs.
+#[derive(Drop)]
+pub(crate) struct RanPromise<F: ByteOut> {
     producers: u32,
+    inputs: Snapshot<Vec<Telling>>,
+    tells: Snapshot<Vec<SavingTell<F>>>,
 }
 
-impl<W: Drop, F: ByteOut + Drop> Promise<Result<Ran<W, F>, StartFault>> for RanPromise {
+impl<W: Drop, F: ByteOut + Drop> Promise<Result<Ran<W, F>, StartFault>> for RanPromise<F> {
     ghost use Rattle.std.specs.Prelude.{◌≡◌, IfOk, vec_len};
+    ghost use Rattle.relay_run.specs.Markings.{EndsAsTold};
 
-    ghost kept_by = { λ p end. IfOk end (λ r. vec_len r.faults ≡ p.producers) };
+    ghost kept_by = { λ p end. IfOk end (λ r. vec_len r.faults ≡ p.producers)
+        × IfOk end (λ r. EndsAsTold p.inputs.value.items p.tells.value.items r.end
+        r.inputs.items r.tells.items) };
 }
 
 /// What a run is given. No number is outstanding on its wires, and what its lanes tell by was told
-/// nothing. Contracts see its config.
+/// nothing. Contracts see its config, and what its threads tell by.
 #[derive(Drop)]
 pub(crate) struct Job<W: Wire, P, S, F: ByteOut> {
     config: RelayConfig,
@@ -45,20 +52,28 @@ pub(crate) struct Job<W: Wire, P, S, F: ByteOut> {
     paces: Vec<P>,
     // What each lane tells by.
     tells: Vec<SavingTell<F>>,
+    // What each producer tells by.
+    inputs: Vec<Telling>,
     // A reader for each producer whose file could be opened.
     readers: Vec<Option<S>>,
 }
 
 impl<W: Wire, P, S, F: ByteOut> Model for Job<W, P, S, F> {
-    ghost use Rattle.relay_core.specs.declared.config.RelayConfig.{RelayConfig};
+    ghost use Rattle.std.specs.Prelude.{◌≡◌, vec_len};
     ghost use Rattle.relay_threads.specs.Relay.{NoneOut};
+    ghost use Rattle.relay_run.specs.Markings.{Jobs};
     ghost use Rattle.relay_run.specs.Saving.{AreNew};
 
-    ghost Value = { RelayConfig };
+    ghost Value = { Jobs };
 
-    ghost view = { λ j. j.config };
+    ghost view = { λ j. record {
+      config = j.config;
+      tells = j.tells.items;
+      inputs = j.inputs.items;
+    } };
 
-    ghost invariant = { λ j. NoneOut W.out j.wires.items × AreNew j.tells.items };
+    ghost invariant = { λ j. NoneOut W.out j.wires.items × AreNew j.tells.items
+        × (vec_len j.inputs ≡ j.config.producers) };
 }
 
 impl<W: Wire, P, S, F: ByteOut> Job<W, P, S, F> {
@@ -67,26 +82,35 @@ impl<W: Wire, P, S, F: ByteOut> Job<W, P, S, F> {
         wires: Vec<W>,
         paces: Vec<P>,
         tells: Vec<SavingTell<F>>,
+        inputs: Vec<Telling>,
         readers: Vec<Option<S>>,
     ) -> Job<W, P, S, F>
         requires out { NoneOut W.out wires.items }
         requires new { AreNew tells.items }
-        ensures { result ≡ config }
+        requires inputs { vec_len inputs ≡ config.producers }
+        ensures { result ≡ record { config = config; tells = tells.items; inputs = inputs.items } }
     {
         Job {
             config,
             wires,
             paces,
             tells,
+            inputs,
             readers,
         }
     }
 
-    // How many producers it has.
-    fn producers(&self) -> u32
-        ensures { result ≡ self.now.producers }
+    // What a run of it in a thread of its own promises.
+    fn promise(&self) -> RanPromise<F>
+        ensures producers { result.producers ≡ self.now.config.producers }
+        ensures inputs { result.inputs.value.items ≡ self.now.inputs }
+        ensures tells { result.tells.value.items ≡ self.now.tells }
     {
-        self.config.producers
+        RanPromise {
+            producers: self.config.producers,
+            inputs: Snapshot::of(&self.inputs),
+            tells: Snapshot::of(&self.tells),
+        }
     }
 }
 
@@ -97,7 +121,6 @@ fn run_job<R, W, P, S, F>(
     job: Job<W, P, S, F>,
     index: Option<&str>,
     stop: &Option<SharedStop>,
-    settling: &Option<SharedSettling>,
 ) -> Result<Ran<W, F>, StartFault>
 where
     R: Threads + Wait + Clock + Copy + Send + 'static,
@@ -105,17 +128,20 @@ where
     P: Pace + Drop + Send + 'static,
     S: ByteIn + Drop + Send + 'static,
     F: ByteOut + Drop + Send + 'static,
-    ensures { IfOk result (λ r. vec_len r.faults ≡ job.producers) }
+    ensures count { IfOk result (λ r. vec_len r.faults ≡ job.config.producers) }
+    ensures told { IfOk result (λ r. EndsAsTold job.inputs job.tells r.end r.inputs.items
+        r.tells.items) }
 {
     let Job {
         config,
         wires,
         paces,
         tells,
+        inputs,
         readers,
     } = job;
     run(
-        rt, alloc, config, wires, paces, tells, readers, index, stop, settling,
+        rt, alloc, config, wires, paces, tells, readers, index, stop, inputs,
     )
 }
 
@@ -124,7 +150,6 @@ where
 struct Apart {
     index: Option<String>,
     stop: Option<SharedStop>,
-    settling: Option<SharedSettling>,
     // It is dropped once the run has ended.
     ended: Sender<(), Global>,
 }
@@ -142,15 +167,16 @@ where
     P: Pace + Drop + Send + 'static,
     S: ByteIn + Drop + Send + 'static,
     F: ByteOut + Drop + Send + 'static,
-    ensures { IfOk result (λ r. vec_len r.faults ≡ job.producers) }
+    ensures count { IfOk result (λ r. vec_len r.faults ≡ job.config.producers) }
+    ensures told { IfOk result (λ r. EndsAsTold job.inputs job.tells r.end r.inputs.items
+        r.tells.items) }
 {
     let Apart {
         index,
         stop,
-        settling,
         ended: _ended,
     } = apart;
-    run_job(*rt, alloc, job, index.as_deref(), &stop, &settling)
+    run_job(*rt, alloc, job, index.as_deref(), &stop)
 }
 
 // Starts it, and waits until it has ended, or there is no more use in that.
@@ -169,12 +195,12 @@ where
     P: Pace + Drop + Send + 'static,
     S: ByteIn + Drop + Send + 'static,
     F: ByteOut + Drop + Send + 'static,
-    ensures { IfOk result (λ o. IfSome o
-        (λ ran. IfOk ran (λ r. vec_len r.faults ≡ job.producers))) }
+    ensures count { IfOk result (λ o. IfSome o
+        (λ ran. IfOk ran (λ r. vec_len r.faults ≡ job.config.producers))) }
+    ensures told { IfOk result (λ o. IfSome o (λ ran. IfOk ran (λ r. EndsAsTold job.inputs
+        job.tells r.end r.inputs.items r.tells.items))) }
 {
-    let promise = RanPromise {
-        producers: job.producers(),
-    };
+    let promise = job.promise();
     let thread = thread::spawn_with(&rt, promise, move || run_apart(&rt, alloc, job, apart))?;
     if has_ended(&rt, waiting, stop, limit) {
         Ok(Some(thread.join(&rt)))
@@ -188,18 +214,11 @@ fn apart_of(
     alloc: Global,
     index: Option<&str>,
     stop: &Option<SharedStop>,
-    settling: &Option<SharedSettling>,
 ) -> Result<(Apart, Receiver<(), Global>), AllocError> {
     let index = own_text(alloc, index)?;
     let stop = share_stop(stop)?;
-    let settling = share_settling(settling)?;
     let (ended, waiting) = bounded::<(), Global>(alloc, 1)?;
-    let apart = Apart {
-        index,
-        stop,
-        settling,
-        ended,
-    };
+    let apart = Apart { index, stop, ended };
     Ok((apart, waiting))
 }
 
@@ -213,7 +232,6 @@ pub(crate) fn run_until<R, W, P, S, F>(
     job: Job<W, P, S, F>,
     index: Option<&str>,
     stop: &Option<SharedStop>,
-    settling: &Option<SharedSettling>,
     limit: Option<u32>,
 ) -> Result<Option<Result<Ran<W, F>, StartFault>>, AllocError>
 where
@@ -222,13 +240,15 @@ where
     P: Pace + Drop + Send + 'static,
     S: ByteIn + Drop + Send + 'static,
     F: ByteOut + Drop + Send + 'static,
-    ensures { IfOk result (λ o. IfSome o
-        (λ ran. IfOk ran (λ r. vec_len r.faults ≡ job.producers))) }
+    ensures count { IfOk result (λ o. IfSome o
+        (λ ran. IfOk ran (λ r. vec_len r.faults ≡ job.config.producers))) }
+    ensures told { IfOk result (λ o. IfSome o (λ ran. IfOk ran (λ r. EndsAsTold job.inputs
+        job.tells r.end r.inputs.items r.tells.items))) }
 {
     let (Some(limit), Some(shared)) = (limit, stop) else {
-        return Ok(Some(run_job(rt, alloc, job, index, stop, settling)));
+        return Ok(Some(run_job(rt, alloc, job, index, stop)));
     };
-    let (apart, waiting) = apart_of(alloc, index, stop, settling)?;
+    let (apart, waiting) = apart_of(alloc, index, stop)?;
     wait_for(rt, alloc, job, apart, &waiting, shared, limit)
 }
 

@@ -6,6 +6,7 @@ ghost use Rattle.relay_wires.specs.Numbers.{numbers};
 
 use crate::loopback::CONFIG;
 use relay_action::{DocKey, MemStream, OpName, Text};
+use relay_common::counts::add_counts;
 use relay_core::{Cause, Report};
 use relay_index::{Index, Script};
 use relay_loop::{LoopEnd, LoopWire, Wire, wire_to};
@@ -17,10 +18,10 @@ use relay_run::faults::{FileFault, add_file_fault};
 use relay_run::feed::{FeedFault, feed};
 use relay_run::hint::say_hint;
 use relay_run::numbering::Numbering;
-use relay_run::outcome::{add_counts, outcome_text};
+use relay_run::outcome::outcome_text;
 use relay_run::run::{Ran, run};
 use relay_run::saving::say_saved;
-use relay_run::settling::Telling;
+use relay_run::settling::{Telling, silent_inputs, silent_lanes};
 use relay_run::skipping::say_left_out;
 use relay_run::stopping::{StopReason, say_stopped};
 use relay_run::telling::{SavingTell, make_tells};
@@ -185,7 +186,8 @@ fn tells_once(alloc: Global, room: usize) -> Option<Vec<SavingTell<MemStream>>>
 {
     let file = stream_of(alloc, b"", room)?;
     let files = one(alloc, file)?;
-    make_tells(alloc, files, Numbering::NEW, &None, &None).ok()
+    let lanes = silent_lanes(alloc, 1).ok()?;
+    make_tells(alloc, files, Numbering::NEW, &None, lanes).ok()
 }
 
 // What one lane tells by that saves in a file which takes this many bytes.
@@ -314,7 +316,7 @@ type Fed = (Result<(), FeedFault>, u64);
 // Feeds a producer, and then drops its ends.
 fn feed_all<R: Wait>(rt: &R, alloc: Global, mut producer: Producer) -> Option<Fed> {
     let mut input = Input::new(alloc, stream_of(alloc, INPUT, 0)?, None);
-    let mut telling = Telling::new(None, 0);
+    let mut telling = Telling::silent(alloc);
     let end = feed(rt, &mut input, &mut producer, &None, &mut telling);
     Some((end, input.line()))
 }
@@ -410,8 +412,9 @@ where
     let paces = one(alloc, SleepPace::new(rt))?;
     let tells = tells_of(alloc, 1_000)?;
     let readers = readers_of(alloc)?;
+    let inputs = silent_inputs(alloc, 2).ok()?;
     Some(run(
-        rt, alloc, CONFIG, wires, paces, tells, readers, None, &None, &None,
+        rt, alloc, CONFIG, wires, paces, tells, readers, None, &None, inputs,
     ))
 }
 

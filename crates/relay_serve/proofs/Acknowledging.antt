@@ -45,7 +45,7 @@ use Rattle.relay_telling.specs.Destinations.{identity, identities, ends_of, Tell
 use Rattle.relay_telling.specs.Endings.{name_in, success_in, report_in, told_in}
 use Rattle.relay_telling.specs.New.{new_end, AreNewTells}
 use Rattle.relay_telling.specs.Shown.{unless_gone, shown_by, shown_at}
-use Rattle.relay_run.specs.Readers.{named_ops}
+use Rattle.relay_common.specs.Putting.{named_ops}
 use Rattle.relay_front.specs.declared.ending.End.{End}
 use Rattle.relay_front.specs.declared.ending.End.TheVariants as end
 use Rattle.relay_front.specs.Operations.{Write}

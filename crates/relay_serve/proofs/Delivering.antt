@@ -10,8 +10,6 @@ use Rattle.relay_producer.specs.States.{ClosedProducerState}
 use Rattle.relay_queue.specs.Ends.{Queue}
 use Rattle.relay_receipts.specs.Ends.{Channel, TakeEnd}
 use Rattle.relay_receipts.specs.Windows.{WindowState}
-use Rattle.relay_run.specs.Identities.{identity_of, identity_of_closed}
-use Rattle.relay_run.specs.Readers.{named_ops}
 use Rattle.relay_telling.specs.declared.ending.Ending.{Ending}
 use Rattle.relay_telling.specs.declared.lane_tells.LaneTells.{LaneTells}
 use Rattle.relay_telling.specs.Destinations.{TellOn}
@@ -21,6 +19,8 @@ use Rattle.relay_threads.specs.DeliveryOfAll.{HavePut, AllDelivered}
 use Rattle.relay_threads.specs.Relay.{NoneOut}
 use Rattle.relay_threads.specs.ToldAll.{AllToldOfPuts}
 use Rattle.relay_threads.specs.Together.{AreDeliveredTogether}
+use Rattle.relay_common.specs.Identities.{identity_of, identity_of_closed}
+use Rattle.relay_common.specs.Putting.{named_ops}
 use Rattle.relay_front.specs.declared.face.Face.{Face}
 use Rattle.relay_serve.specs.Answering.{requests_of}
 use Rattle.relay_serve.specs.Configs.{config_in}

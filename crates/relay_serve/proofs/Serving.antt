@@ -14,10 +14,9 @@ use Rattle.relay_receipts.specs.Notices.{IsWellTaken}
 use Rattle.relay_receipts.specs.Windows.{WindowState}
 use Rattle.relay_threads.specs.DeliveryOfAll.{HavePut}
 use Rattle.relay_threads.specs.Relay.{AreNew, new_producer}
-use Rattle.relay_run.specs.Feeding.{after_puts}
-use Rattle.relay_run.specs.Identities.{identity_of, identity_of_closed}
-use Rattle.relay_run.specs.Readers.{named_ops}
-use Rattle.relay_run.proofs.Ending.{put_on, new_none, HavePutAs, put_at}
+use Rattle.relay_common.specs.Identities.{identity_of, identity_of_closed}
+use Rattle.relay_common.specs.Putting.{after_puts, named_ops}
+use Rattle.relay_common.proofs.Putting.{put_on, new_none, HavePutAs, put_at}
 use Rattle.relay_front.specs.declared.ending.End.{End}
 use Rattle.relay_front.specs.Operations.{Write}
 use Rattle.relay_front.specs.declared.face.Face.{Face}

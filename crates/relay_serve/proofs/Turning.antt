@@ -5,8 +5,8 @@ use Rattle.std.specs.Prelude.{Bool}
 use Rattle.relay_results.specs.Outside.{Outside}
 use Rattle.relay_core.specs.declared.config.RelayConfig.{RelayConfig}
 use Rattle.relay_lane.specs.Exchanges.{Exchange}
+use Rattle.relay_common.specs.Counts.{total}
 use Rattle.relay_front.specs.declared.face.Face.{Face}
-use Rattle.relay_run.specs.Outcomes.{total}
 use Rattle.relay_threads.specs.declared.summary.LaneSummary.{LaneSummary}
 use Rattle.relay_serve.specs.Configs.{config_in}
 use Rattle.relay_serve.specs.Delivered.{IsDelivered}

@@ -21,7 +21,7 @@ use Rattle.relay_threads.specs.Told.{Told, IsToldTruly, status_told}
 use Rattle.relay_threads.specs.ToldAll.{ToldOfPuts}
 use Rattle.relay_telling.specs.declared.lane_tells.LaneTells.{LaneTells}
 use Rattle.relay_telling.specs.Shown.{shown_at}
-use Rattle.relay_run.specs.Readers.{named_ops}
+use Rattle.relay_common.specs.Putting.{named_ops}
 use Rattle.relay_front.specs.declared.ending.End.{End}
 use Rattle.relay_front.specs.declared.ending.End.TheVariants as end
 use Rattle.relay_serve.specs.Serving.{Request, ops_of}

@@ -9,9 +9,9 @@ use Rattle.relay_producer.specs.States.{ClosedProducerState}
 use Rattle.relay_queue.specs.Ends.{Queue}
 use Rattle.relay_receipts.specs.Ends.{TakeEnd}
 use Rattle.relay_receipts.specs.Windows.{WindowState}
-use Rattle.relay_run.specs.Identities.{identity_of, identity_of_closed}
 use Rattle.relay_telling.specs.declared.ending.Ending.{Ending}
 use Rattle.relay_threads.specs.Relay.{new_producer}
+use Rattle.relay_common.specs.Identities.{identity_of, identity_of_closed}
 use Rattle.relay_front.specs.declared.face.Face.{Face}
 use Rattle.relay_front.specs.Service.{Answers, just, nothing}
 use Rattle.relay_serve.specs.Serving.{Request, taken_by}

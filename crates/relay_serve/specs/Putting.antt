@@ -9,7 +9,7 @@ use Rattle.relay_receipts.specs.declared.notice.Notice.{Notice}
 use Rattle.relay_receipts.specs.declared.window.WindowFault.{WindowFault}
 use Rattle.relay_receipts.specs.declared.window.WindowFaultKind.{WindowFaultKind}
 use Rattle.relay_receipts.specs.declared.window.WindowFaultKind.TheVariants as kind
-use Rattle.relay_run.specs.Feeding.{after_puts}
+use Rattle.relay_common.specs.Putting.{after_puts}
 use Rattle.relay_front.specs.declared.ending.End.{End}
 use Rattle.relay_front.specs.declared.ending.End.TheVariants as end
 use Rattle.relay_front.specs.Operations.{Write}

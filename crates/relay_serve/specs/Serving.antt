@@ -6,7 +6,7 @@ use Rattle.relay_receipts.specs.Ends.{TakeEnd}
 use Rattle.relay_receipts.specs.Windows.{WindowState}
 use Rattle.relay_receipts.specs.declared.notice.Notice.{Notice}
 use Rattle.relay_threads.specs.Relay.{new_producer}
-use Rattle.relay_run.specs.Readers.{named_ops}
+use Rattle.relay_common.specs.Putting.{named_ops}
 use Rattle.relay_front.specs.declared.ending.End.{End}
 use Rattle.relay_front.specs.Operations.{Write}
 use Rattle.relay_telling.specs.declared.ending.Ending.{Ending}

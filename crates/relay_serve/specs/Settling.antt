@@ -5,7 +5,7 @@ use Rattle.relay_producer.specs.Ends.{identities, open_puts}
 use Rattle.relay_producer.specs.States.{ProducerState, after_gone}
 use Rattle.relay_receipts.specs.Windows.{WindowState, without_ended}
 use Rattle.relay_receipts.specs.declared.notice.Notice.{Notice}
-use Rattle.relay_run.specs.Feeding.{after_puts}
+use Rattle.relay_common.specs.Putting.{after_puts}
 use Rattle.relay_front.specs.declared.ending.End.{End}
 use Rattle.relay_front.specs.declared.ending.End.TheVariants as end
 use Rattle.relay_front.specs.Operations.{Write}

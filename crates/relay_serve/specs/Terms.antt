@@ -7,10 +7,10 @@ use Rattle.relay_results.specs.Outside.{Outside}
 use Rattle.relay_core.specs.declared.config.RelayConfig.{RelayConfig}
 use Rattle.relay_lane.specs.Exchanges.{Exchange}
 use Rattle.relay_receipts.specs.Ends.{TakeEnd}
+use Rattle.relay_common.specs.Counts.{total}
 use Rattle.relay_front.specs.declared.face.Face.{Face}
 use Rattle.relay_telling.specs.declared.ending.Ending.{Ending}
 use Rattle.relay_threads.specs.declared.summary.LaneSummary.{LaneSummary}
-use Rattle.relay_run.specs.Outcomes.{total}
 use Rattle.relay_net.specs.declared.timed.TimedDial.{TimedDial}
 use Rattle.relay_net.specs.declared.timed.TimedStream.{TimedStream}
 use Rattle.relay_progress.specs.declared.dial.CountedDial.{CountedDial}

@@ -7,7 +7,7 @@ use crate::saying::{say, say_line};
 use relay_action::ByteOut;
 use relay_core::config::EPOCH_LIMIT;
 use relay_epoch::{EpochFault, fault_text};
-use relay_run::leasing::lease;
+use relay_common::leasing::lease;
 use relay_words::Exit;
 use std::alloc::Global;
 use std::fs::File;

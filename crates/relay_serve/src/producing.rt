@@ -1,7 +1,7 @@
 //! What a worker's front puts its writes by, and where it gets ids.
 ghost use Rattle.std.specs.Prelude.{◌≡◌};
 ghost use Rattle.relay_producer.specs.Ends.{ClosesAll};
-ghost use Rattle.relay_run.specs.Identities.{identity_of, identity_of_closed};
+ghost use Rattle.relay_common.specs.Identities.{identity_of, identity_of_closed};
 ghost use Rattle.relay_serve.specs.Settling.{Settles};
 
 use crate::clerk::Clerk;

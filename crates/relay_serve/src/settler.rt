@@ -3,7 +3,7 @@ ghost use Rattle.std.specs.Prelude.{◌≡◌, ◌⊎◌, ℕ, ◌+◌, ◌≤�
 ghost use Rattle.std.specs.Prelude.{List, OnErr, false, length, vec_capacity, vec_len};
 ghost use Rattle.relay_producer.specs.Ends.{ClosesAll};
 ghost use Rattle.relay_receipts.specs.Windows.{WindowState, without_ended};
-ghost use Rattle.relay_run.specs.Identities.{identity_of, identity_of_closed};
+ghost use Rattle.relay_common.specs.Identities.{identity_of, identity_of_closed};
 ghost use Rattle.relay_serve.specs.Batches.{KeepsPlaces, FitsFrom};
 ghost use Rattle.relay_serve.specs.Putting.{Hears, Tries, Becomes, PutsSome, is_final};
 ghost use Rattle.relay_serve.specs.Settling.{Stays, Settles, Event, WasHeard};

@@ -1,8 +1,8 @@
 //! How many operations ended how, in all lanes and terms.
 ghost use Rattle.std.specs.Prelude.{◌≡◌, IfOk, vec_len};
-ghost use Rattle.relay_run.specs.Outcomes.{counts_line, total};
+ghost use Rattle.relay_common.specs.Counts.{counts_line, total};
 
-use relay_run::outcome::add_counts;
+use relay_common::counts::add_counts;
 use relay_threads::Summary;
 use std::alloc::{AllocError, Global};
 

@@ -17,7 +17,7 @@ use rand_pcg::Pcg64;
 use relay_clients::{Client, Parking};
 use relay_producer::{ClosedControl, ClosedProducer, Control, Producer};
 use relay_receipts::{ReceiptTake, WindowedProducer};
-use relay_run::ticking::tick_until_ended;
+use relay_common::ticking::tick_until_ended;
 use relay_telling::Ending;
 use relay_threads::StartFault;
 use std::alloc::{AllocError, Global};

@@ -1,12 +1,13 @@
-use Rattle.std.proofs.Common.{length}
-use Rattle.relay_resume.specs.Steps.{AllNamed, Passes}
+use Rattle.std.proofs.Common.{length, ◌<◌, ◌+◌, ◌^◌}
+use Rattle.std.specs.VecDeque.{deque_len}
+use Rattle.relay_resume.specs.Steps.{KeepFollowing}
 use Rattle.relay_resume.proofs.trail.pass.Given as goal
 
 abbrev pub invariant-front : goal.invariant-front
 invariant-front l = record {
-  passes : Passes l.initial.mark l.mark l.initial.passed l.passed l.initial.ahead.items l.ahead.items;
-  named : AllNamed l.passed l.ahead.items;
+  follows : KeepFollowing l.initial.mark l.mark l.initial.passed l.passed l.initial.ends.items l.ends.items l.initial.noted.items l.noted.items;
+  within : l.passed + deque_len l.noted < 2 ^ 64;
 }
 
 abbrev pub decreases-front : goal.decreases-front
-decreases-front l = length l.ahead.items
+decreases-front l = length l.ends.items

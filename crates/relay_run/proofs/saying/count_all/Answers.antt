@@ -1,5 +1,6 @@
 use Rattle.std.specs.Vec.Iter.{into_iter_items}
-use Rattle.relay_run.proofs.Texts.{total_on, reports_on}
+use Rattle.relay_common.proofs.Totals.{total_on}
+use Rattle.relay_run.proofs.Texts.{reports_on}
 use Rattle.relay_run.proofs.saying.count_all.Goals as goal
 
 pub loop-lane-preserved : goal.loop-lane-preserved

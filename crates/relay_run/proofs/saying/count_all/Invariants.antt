@@ -1,6 +1,7 @@
 use Rattle.std.proofs.Common.{◌≡◌, ◌++◌}
 use Rattle.std.specs.Vec.Iter.{into_iter_items}
-use Rattle.relay_run.specs.Outcomes.{total, reports_of}
+use Rattle.relay_common.specs.Counts.{total}
+use Rattle.relay_run.specs.Outcomes.{reports_of}
 use Rattle.relay_run.proofs.saying.count_all.Given as goal
 
 -- what was counted, and then what is left

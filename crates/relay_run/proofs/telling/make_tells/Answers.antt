@@ -1,5 +1,7 @@
-use Rattle.std.proofs.Common.{arith}
+use Rattle.std.proofs.Common.{arith, subst}
 use Rattle.std.specs.Vec.Iter.{into_iter_items}
+use Rattle.relay_run.specs.Saving.{AreUntold, lane_seat, seat_of}
+use Rattle.relay_run.proofs.Meeting.{gives_seen}
 use Rattle.relay_run.proofs.Savers.{new_on, go_on_more, left_on}
 use Rattle.relay_run.proofs.telling.make_tells.Goals as goal
 
@@ -11,5 +13,10 @@ loop-file-preserved g c =
       count = omega (arith, i.count, s.1, c.in_ok-push.ensures.len);
       new = new_on c.loop-file.tells.items _ c.new.result c.in_ok-push.ensures.items i.new c.new.ensures.new;
       before = go_on_more c.args.numbering.before c.loop-file.tells.items _ c.new.result c.in_ok-push.ensures.items i.before c.new.ensures.before;
+      settled = (subst AreUntold c.in-Some-next.ensures.items i.settled).1;
+      seats =
+          gives_seen seat_of lane_seat c.args.settled.items (into_iter_items c.loop-file.settled) (into_iter_items c.next-in-loop-file.new.self) c.loop-file.tells.items _ c.new.result c.in-Some-next.settled i.seats c.in-Some-next.ensures.items
+          c.in_ok-push.ensures.items c.new.ensures.via;
+      lanes = omega (arith, i.lanes, s.1, c.in-Some-next.ensures.len);
       left = (left_on g.P.ByteStream.written g.P.ByteStream.failed (into_iter_items c.loop-file.file-iterator) (into_iter_items c.next.new.self) c.in-Some.file s.0 i.left).1;
     }

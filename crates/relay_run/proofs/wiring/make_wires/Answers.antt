@@ -1,6 +1,7 @@
 use Rattle.std.proofs.Common.{ap, arith, ◌∙◌}
 use Rattle.relay_wires.specs.Numbers.{numbers}
-use Rattle.relay_run.proofs.Handing.{none_out_push, new_wires_push}
+use Rattle.relay_common.proofs.Handing.{none_out_push}
+use Rattle.relay_run.proofs.Handing.{new_wires_push}
 use Rattle.relay_run.proofs.wiring.make_wires.Goals as goal
 
 pub lanes-preserved : goal.lanes-preserved

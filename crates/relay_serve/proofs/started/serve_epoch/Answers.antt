@@ -1,12 +1,12 @@
 use Rattle.std.proofs.Common.{◌≡◌, length, map, ap, refl, subst, sym, arith, ◌∙◌}
 use Rattle.std.proofs.lemmas.List.{length-map}
 use Rattle.relay_core.specs.declared.config.RelayConfig.{RelayConfig}
-use Rattle.relay_run.proofs.Handing.{rows_of_all, count_back, control_back}
 use Rattle.relay_telling.specs.declared.lane_tells.LaneTells.{LaneTells}
 use Rattle.relay_telling.specs.Destinations.{identities, TellOn}
 use Rattle.relay_telling.proofs.New.{tell_on}
 use Rattle.relay_threads.specs.Relay.{rows_of}
 use Rattle.relay_wires.specs.Numbers.{numbers}
+use Rattle.relay_common.proofs.Handing.{rows_of_all, count_back, control_back}
 use Rattle.relay_serve.specs.Answering.{index_in}
 use Rattle.relay_serve.specs.Workers.{channel_in, producer_in}
 use Rattle.relay_serve.proofs.Delivering.{delivers, workers_identities}

@@ -1,7 +1,7 @@
 use Rattle.std.proofs.Common.{◌+◌, ap, vec_len, ◌∙◌}
 use Rattle.relay_ndjson.specs.Operations.{saturating_count}
 use Rattle.std.specs.Vec.Iter.{into_iter_items}
-use Rattle.relay_run.proofs.Texts.{total_on}
+use Rattle.relay_common.proofs.Totals.{total_on}
 use Rattle.relay_serve.proofs.totals.count_all.Goals as goal
 
 pub lanes-preserved : goal.lanes-preserved

@@ -1,6 +1,6 @@
 use Rattle.std.proofs.Common.{◌≡◌, vec_len}
 use Rattle.std.specs.Vec.Iter.{into_iter_items}
-use Rattle.relay_run.specs.Outcomes.{total}
+use Rattle.relay_common.specs.Counts.{total}
 use Rattle.relay_serve.proofs.totals.count_all.Given as goal
 
 -- what was counted, and then what is left

@@ -1,6 +1,6 @@
 use Rattle.std.proofs.Common.{arith}
 use Rattle.relay_wires.specs.Numbers.{numbers}
-use Rattle.relay_run.proofs.Handing.{none_out_push}
+use Rattle.relay_common.proofs.Handing.{none_out_push}
 use Rattle.relay_serve.proofs.wiring.make_wires.Goals as goal
 
 pub lanes-preserved : goal.lanes-preserved

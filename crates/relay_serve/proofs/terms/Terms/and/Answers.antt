@@ -1,6 +1,6 @@
 use Rattle.std.proofs.Common.{◌≡◌, ◌+◌, ◌++◌, [], ◌∷◌, map, ap, arith, sym, ◌∙◌, vec_len}
 use Rattle.std.proofs.lemmas.List.{map-append}
-use Rattle.relay_run.specs.Outcomes.{total}
+use Rattle.relay_common.specs.Counts.{total}
 use Rattle.relay_serve.specs.declared.terms.Term.{Term}
 use Rattle.relay_serve.specs.Answering.{index_in}
 use Rattle.relay_serve.specs.Terms.{ended, floor_after, total_of}

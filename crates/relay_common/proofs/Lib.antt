@@ -1,0 +1,3 @@
+pub mod Totals
+pub mod Handing
+pub mod Putting

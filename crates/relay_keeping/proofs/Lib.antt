@@ -1,0 +1,5 @@
+mod Messages
+mod Following
+mod Places
+mod Founding
+mod Seats

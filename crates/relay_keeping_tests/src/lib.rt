@@ -1,0 +1,7 @@
+//! The tests of `relay_keeping`: the marks of two inputs, by what two producers and two lanes tell.
+#![tactic(auto)]
+
+#[cfg(test)]
+mod marks;
+#[cfg(test)]
+mod refusals;

@@ -1,0 +1,68 @@
+//! Going on with an input at its mark.
+ghost use Rattle.std.specs.Prelude.{◌≡◌, IfSome, Some};
+ghost use Rattle.std.specs.Io.Cursor.{cursor_inner, cursor_position};
+ghost use Rattle.relay_resume.specs.GoingOn.{bytes_from, text_from};
+
+use relay_resume::{Course, Mark, seek_to};
+use std::alloc::Global;
+use std::io::{Cursor, Read};
+
+// Lines of 3, 1, 6 and 2 bytes, and 4 bytes of a line that has not ended.
+const TEXT: &[u8] = b"ab\n\nabcde\n1\nopen";
+
+// How many operations are settled, of those that end with the lines 2, 4 and 5, and what follows them.
+const RESTS: [(u64, &[u8]); 4] = [(0, TEXT), (1, b"abcde\n1\nopen"), (2, b"open"), (3, b"")];
+
+// The mark after so many of these operations.
+fn mark_after(alloc: Global, settled: u64) -> Option<Mark> {
+    let start = Mark {
+        offset: 0,
+        line: 0,
+        count: 0,
+    };
+    let mut course = Course::new(alloc, start);
+    course.read(TEXT).ok()?;
+    course.put(2).ok()?;
+    course.put(4).ok()?;
+    course.put(5).ok()?;
+    for number in 0..settled.min(3) {
+        course.settle(number + 1).ok()?;
+    }
+    Some(course.mark())
+}
+
+// A source of bytes that goes on at a mark.
+fn source_from<'a>(bytes: &'a [u8], mark: Mark) -> Option<Cursor<&'a [u8]>>
+    ensures { IfSome result (λ c. bytes_from (Some (cursor_position c))
+        (Some (cursor_inner c).now) ≡ Some (text_from mark bytes.now)) }
+{
+    let mut source = Cursor::new(bytes);
+    seek_to(&mut source, mark).ok()?;
+    Some(source)
+}
+
+// Whether exactly this is read from a mark on.
+fn is_rest(mark: Mark, rest: &[u8]) -> bool {
+    let mut bytes = [0u8; 32];
+    let Some(mut source) = source_from(TEXT, mark) else {
+        return false;
+    };
+    match source.read(&mut bytes) {
+        Ok(count) => bytes.get(..count) == Some(rest),
+        Err(_) => false,
+    }
+}
+
+fn follows(alloc: Global, settled: u64, rest: &[u8]) -> bool {
+    match mark_after(alloc, settled) {
+        Some(mark) => mark.count == settled && is_rest(mark, rest),
+        None => false,
+    }
+}
+
+#[test]
+fn what_follows_a_mark(rt: HostRuntime) {
+    for (settled, rest) in RESTS {
+        assert!(rt; follows(rt.alloc(), settled, rest));
+    }
+}
