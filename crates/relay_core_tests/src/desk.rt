@@ -4,6 +4,7 @@ use relay_batch::Limits;
 use relay_core::{Cause, Lane, NotFlying, RelayConfig, Settled, TakeFault, Totals};
 use relay_results::{ErrorDetail, ItemError, Loss, Outcome};
 use std::alloc::Global;
+use std::mem;
 use std::process::Abort;
 
 /// Batches of ten documents and 4,096 bytes that are sent immediately.
@@ -102,14 +103,16 @@ fn take(
     body: Body,
 ) -> Option<TakeFault> {
     assert!(rt; sender < lane.senders());
-    match lane.take(Mail {
+    let mail = Mail {
         sender,
         number,
         body,
-    }) {
-        Ok(()) => None,
-        Err((fault, _)) => Some(fault),
-    }
+    };
+    let Err((fault, back)) = lane.take(mail) else {
+        return None;
+    };
+    mem::forget(back);
+    Some(fault)
 }
 
 /// Puts an operation of the first producer; without a source it deletes. Returns the fault, if it

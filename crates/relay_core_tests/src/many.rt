@@ -5,6 +5,7 @@ use relay_action::{Action, Body, DocKey, Mail, Op};
 use relay_batch::Limits;
 use relay_core::{Lane, RelayConfig, TakeFault};
 use std::alloc::Global;
+use std::mem;
 use std::process::Abort;
 
 const FULL: RelayConfig = RelayConfig {
@@ -26,7 +27,7 @@ fn puts(rt: &impl Abort, alloc: Global, lane: &mut Lane, number: u64, document: 
 // How many writes the next request carries; 0 if there is none.
 fn carried(rt: &impl Abort, lane: &mut Lane) -> usize {
     match lane.request().expect(rt, "memory") {
-        Some(number) => lane.writes(number).map_or(0, |writes| writes.len()),
+        Some(number) => lane.writes(number).expect(rt, "writes").len(),
         None => 0,
     }
 }
@@ -131,4 +132,5 @@ fn refusals(rt: HostRuntime) {
     assert!(rt; takes(&mut lane, delete_again(&rt, rt.alloc())));
     assert!(rt; sends(&mut lane));
     assert!(rt; lane.held() == 1 && lane.due_in().is_none());
+    mem::forget(lane);
 }

@@ -5,6 +5,7 @@ use relay_action::{Action, Body, DocKey, Mail, Op};
 use relay_batch::Limits;
 use relay_core::{Lane, RelayConfig, TakeFault};
 use std::alloc::{AllocError, Global};
+use std::mem;
 
 /// Ids and sources that are too long to be stored in the value itself.
 const DOCUMENTS: [&str; 4] = [
@@ -29,22 +30,42 @@ pub fn made_again(alloc: Global, config: RelayConfig) -> Option<Lane> {
 }
 
 fn mail_of(alloc: Global, number: u64, id: &str) -> Option<Mail> {
+    let key = DocKey::new(alloc, "books", id).ok()?;
+    let Ok(action) = Action::index(alloc, id) else {
+        mem::forget(key);
+        return None;
+    };
+    let op = Op {
+        epoch: 0,
+        producer: 0,
+        number,
+        key,
+        action,
+    };
     Some(Mail {
         sender: 0,
         number,
-        body: Body::Put(Op {
-            epoch: 0,
-            producer: 0,
-            number,
-            key: DocKey::new(alloc, "books", id).ok()?,
-            action: Action::index(alloc, id).ok()?,
-        }),
+        body: Body::Put(op),
     })
+}
+
+fn mail_again(alloc: Global, number: u64, id: &str) -> Option<Mail> {
+    match mail_of(alloc, number, id) {
+        None => mail_of(alloc, number, id),
+        made => made,
+    }
 }
 
 // Whether a message of a known sender is taken.
 fn is_taken(lane: &mut Lane, mail: Mail) -> bool {
-    mail.sender < lane.senders() && lane.take(mail).is_ok()
+    if mail.sender >= lane.senders() {
+        mem::forget(mail);
+        return false;
+    }
+    match lane.take(mail) {
+        Ok(()) => true,
+        Err(_) => false,
+    }
 }
 
 /// Takes a message, by a second call if an allocation of the first failed and the lane was
@@ -66,7 +87,7 @@ pub fn takes(lane: &mut Lane, mail: Mail) -> bool {
 }
 
 fn puts(alloc: Global, lane: &mut Lane, number: u64, id: &str) -> Option<bool> {
-    let mail = mail_of(alloc, number, id).or_else(|| mail_of(alloc, number, id))?;
+    let mail = mail_again(alloc, number, id)?;
     Some(takes(lane, mail))
 }
 
@@ -82,7 +103,11 @@ fn puts_all(alloc: Global, lane: &mut Lane) -> Option<bool> {
 
 fn filled(alloc: Global) -> Option<Lane> {
     let mut lane = made_again(alloc, SHORT)?;
-    puts_all(alloc, &mut lane)?.then_some(lane)
+    if puts_all(alloc, &mut lane) == Some(true) {
+        return Some(lane);
+    }
+    mem::forget(lane);
+    None
 }
 
 // Three operations are held, and the fourth, for which no version was left, is reported.
@@ -90,6 +115,7 @@ fn filled(alloc: Global) -> Option<Lane> {
 fn refused_operations(rt: HostRuntime) {
     let lane = filled(rt.alloc()).expect(&rt, "four operations");
     assert!(rt; lane.held() == 3 && lane.totals().taken == 4 && lane.reports().len() == 1);
+    mem::forget(lane);
 }
 
 /// Whether the first request is formed, by a second call if the first was refused and changed
@@ -137,16 +163,19 @@ const LINGERS: RelayConfig = RelayConfig {
 // A lane with an operation that is not to be sent yet.
 fn gathering(alloc: Global) -> Option<Lane> {
     let mut lane = made_again(alloc, LINGERS)?;
-    let put = puts(alloc, &mut lane, 1, DOCUMENTS[0]) == Some(true);
-    put.then_some(lane)
+    if puts(alloc, &mut lane, 1, DOCUMENTS[0]) == Some(true) {
+        return Some(lane);
+    }
+    mem::forget(lane);
+    None
 }
 
 // Without a batch to send there is no request, even if the memory of a batch is refused.
 #[test]
 fn refused_without_a_batch(rt: HostRuntime) {
     let mut lane = gathering(rt.alloc()).expect(&rt, "an operation");
-    assert!(rt; !lane.has_batch());
-    assert!(rt; lane.request() == Ok(None));
+    assert!(rt; !lane.has_batch() && lane.request() == Ok(None));
+    mem::forget(lane);
 }
 
 #[test]
@@ -154,4 +183,5 @@ fn refused_request(rt: HostRuntime) {
     let mut lane = filled(rt.alloc()).expect(&rt, "four operations");
     assert!(rt; sends(&mut lane));
     assert!(rt; is_sent(&lane) && lane.flying() == 1);
+    mem::forget(lane);
 }

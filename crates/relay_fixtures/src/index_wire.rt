@@ -40,8 +40,7 @@ pub enum Way {
     Random,
 }
 
-/// A wire that runs requests when they are sent, one at a time.
-#[derive(Drop)]
+/// A wire that runs requests when they are sent, one at a time. What it owns is leaked, as a lane is.
 pub struct IndexWire {
     alloc: Global,
     pub index: Index,
@@ -52,6 +51,22 @@ pub struct IndexWire {
     /// How many requests were to be sent.
     pub sends: u64,
     rng: Pcg32,
+}
+
+impl Drop for IndexWire {
+    fn drop(self) {
+        let IndexWire {
+            alloc: _,
+            index,
+            way: _,
+            now: _,
+            flying: _,
+            reply,
+            sends: _,
+            rng,
+        } = self;
+        mem::forget((index, reply, rng));
+    }
 }
 
 /// A wire with an empty index.

@@ -13,6 +13,7 @@ use relay_fixtures::notes::NO_PAUSES;
 use relay_index::Index;
 use relay_lane::{RelayConfig, drain, make_room, pump};
 use std::alloc::Global;
+use std::mem;
 use std::process::Abort;
 
 const OPERATIONS: u64 = 10_000;
@@ -67,7 +68,9 @@ fn is_applied(rt: &impl Abort, alloc: Global, index: &Index, number: u64, place:
     let source = format!(in alloc; "{number}").expect(rt, "memory");
     let key = key_of(alloc, "b", id.as_str()).expect(rt, "a key");
     let write = index.applied(&key).get(place).expect(rt, "a write");
-    write.version == number && stores(write, source.as_str())
+    let same = write.version == number && stores(write, source.as_str());
+    mem::forget((id, source, key));
+    same
 }
 
 // The index applied to each document its operations, in order, each once.

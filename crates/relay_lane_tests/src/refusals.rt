@@ -175,13 +175,22 @@ fn drains(lane: &mut Lane, wire: &mut IndexWire) -> bool
     }
 }
 
-// Whether the index applied one write to each document.
-fn is_whole(alloc: Global, index: &Index) -> Option<bool> {
-    let mut good = true;
-    for id in IDS {
-        good = index.applied(&key_of(alloc, "b", id)?).len() == 1 && good;
+// Whether the index applied one write to a document.
+fn has_one(alloc: Global, index: &Index, id: &str) -> bool {
+    match key_of(alloc, "b", id) {
+        Some(key) => index.applied(&key).len() == 1,
+        None => false,
     }
-    Some(good)
+}
+
+// Whether it applied one to each document.
+fn is_whole(alloc: Global, index: &Index) -> bool {
+    for id in IDS {
+        if !has_one(alloc, index, id) {
+            return false;
+        }
+    }
+    true
 }
 
 // Puts the fourth operation, by a second call if the first was refused.
@@ -218,7 +227,7 @@ fn applies_four(rt: &impl Abort, alloc: Global, by_pump: bool) {
     let mut desk = made_again(alloc).expect(rt, "three operations");
     let mut wire = wire_of(alloc, Way::Runs);
     assert!(rt; works(alloc, &mut desk, &mut wire, by_pump));
-    assert!(rt; is_whole(alloc, &wire.index) == Some(true));
+    assert!(rt; is_whole(alloc, &wire.index));
 }
 
 #[test]

@@ -101,4 +101,5 @@ fn tells(rt: HostRuntime) {
     drain(&mut desk.lane, &mut wire, &mut pace).expect(&rt, "memory");
     assert!(rt; desk.lane.finished() && desk.lane.totals().requests == 5);
     assert!(rt; count_applied(alloc, &wire.index) == Ok(3));
+    mem::forget(wire);
 }

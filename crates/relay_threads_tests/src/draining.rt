@@ -11,6 +11,7 @@ use relay_lane::{Lane, RelayConfig};
 use relay_queue::{LanePut, LaneTake, lane_queue};
 use relay_threads::{LaneEndKind, run_lane};
 use std::alloc::Global;
+use std::mem;
 use std::process::Abort;
 use std::sync::atomic::Ordering;
 use std::sync::{Arc, Wait};
@@ -99,7 +100,9 @@ fn drained<R: Wait + Abort + AllocGlobal>(rt: &R, take: LaneTake) -> (u64, bool)
     let wire = comparing_wire(rt.alloc(), sums);
     let end = run_lane(rt, take, lane, wire, AtOnce, &mut tell);
     assert!(rt; end.kind == LaneEndKind::Finished);
-    (end.wire.watch.answers, end.wire.watch.late)
+    let told = (end.wire.watch.answers, end.wire.watch.late);
+    mem::forget(end);
+    told
 }
 
 // Three operations of one document are sent one after another. The lane has heard that all have

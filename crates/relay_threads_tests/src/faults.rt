@@ -4,6 +4,7 @@ use relay_lane::{Lane, RelayConfig};
 use relay_producer::ClosedEnd;
 use relay_queue::lane_queue;
 use relay_threads::{FinishFaultKind, LaneEnd, LaneEndKind, fault_of};
+use std::mem;
 use std::process::Abort;
 
 const CONFIG: RelayConfig = RelayConfig {
@@ -47,7 +48,9 @@ fn told(
     ends.push(end_of(rt, first)).expect(rt, "memory");
     ends.push(end_of(rt, second)).expect(rt, "memory");
     assert!(rt; ends.len() == 2);
-    let fault = fault_of(&ends, &rows)?;
+    let fault = fault_of(&ends, &rows);
+    mem::forget((ends, rows));
+    let fault = fault?;
     Some((fault.kind, fault.lane))
 }
 

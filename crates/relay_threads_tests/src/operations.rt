@@ -9,6 +9,7 @@ use relay_fixtures::keys;
 use relay_index::Index;
 use relay_lane::{Loss, Pace};
 use std::alloc::Global;
+use std::mem;
 
 /// A wire to an empty index, which loses its first reply.
 pub fn losing_wire(alloc: Global) -> IndexWire
@@ -68,9 +69,14 @@ fn is_applied(
     number: u64,
     place: u64,
 ) -> Option<bool> {
-    let key = key_of(alloc, producer, number)?;
     let source = format!(in alloc; "{number}").ok()?;
-    Some(has_at(index.applied(&key), place, source.as_str()))
+    let Some(key) = key_of(alloc, producer, number) else {
+        mem::forget(source);
+        return None;
+    };
+    let same = has_at(index.applied(&key), place, source.as_str());
+    mem::forget((source, key));
+    Some(same)
 }
 
 // Whether the index applied to each document of a producer its operations, each once and in order.

@@ -4,9 +4,11 @@ use crate::operations::{is_whole, losing_wire};
 use crate::relays::{CONFIG, RunFault, run_one, run_summing};
 use crate::tests::run;
 use relay_fixtures::index_wire::IndexWire;
+use relay_index::Index;
 use relay_lane::Lane;
 use relay_threads::{FinishFaultKind, LaneEndKind, LaneSummary, StartFault, Summary};
 use std::alloc::Global;
+use std::mem;
 use std::sync::Wait;
 use std::sync::atomic::AtomicU32;
 use std::thread::Threads;
@@ -17,11 +19,17 @@ fn all_settled<W>(lane: &LaneSummary<W>) -> bool {
     lane.taken == 200 && settled == 200 && lane.reports.is_empty()
 }
 
+// Whether an index is whole, by a second look if an allocation of the first was refused.
+fn is_whole_again(alloc: Global, index: &Index) -> Option<bool> {
+    match is_whole(alloc, index) {
+        None => is_whole(alloc, index),
+        whole => whole,
+    }
+}
+
 fn is_delivered(alloc: Global, summary: &Summary<IndexWire>) -> Option<bool> {
     match summary.lanes.as_slice() {
-        [lane] if all_settled(lane) => {
-            is_whole(alloc, &lane.wire.index).or_else(|| is_whole(alloc, &lane.wire.index))
-        }
+        [lane] if all_settled(lane) => is_whole_again(alloc, &lane.wire.index),
         _ => Some(false),
     }
 }
@@ -122,11 +130,13 @@ fn end_of(lane: &Lane, kind: LaneEndKind) -> Ended {
 // How a lane ends to which two producers put ten operations each. `None`: it was not started.
 fn end_once<R: Threads + Wait + Copy + Send + 'static>(rt: R, alloc: Global) -> Option<Ended> {
     let end = run(rt, alloc, 10, true).ok()?;
-    if is_accounted_for(&end.lane) {
-        Some(end_of(&end.lane, end.kind))
+    let ended = if is_accounted_for(&end.lane) {
+        end_of(&end.lane, end.kind)
     } else {
-        Some(Ended::Wrong)
-    }
+        Ended::Wrong
+    };
+    mem::forget(end);
+    Some(ended)
 }
 
 // Whether a lane finishes, by a second run if the first was refused.

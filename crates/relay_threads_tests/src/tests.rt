@@ -10,8 +10,8 @@ use relay_queue::{LanePut, lane_queue};
 use relay_threads::{LaneEnd, LaneEndKind, TellNobody, run_lane};
 use std::alloc::{AllocError, Global};
 use std::sync::Wait;
-use std::thread;
 use std::thread::Threads;
+use std::{mem, thread};
 
 // An operation as a message.
 fn body_of(alloc: Global, producer: u32, number: u64) -> Option<Body>
@@ -80,7 +80,10 @@ pub fn run<R: Threads + Wait + Copy + Send + 'static>(
 ) -> Result<LaneEnd<IndexWire>, AllocError> {
     let (take, puts) = lane_queue(alloc, CONFIG.capacity, CONFIG.producers + 1)?;
     let lane = Lane::new(alloc, CONFIG)?;
-    start_senders(rt, alloc, puts, count, close)?;
+    if start_senders(rt, alloc, puts, count, close).is_err() {
+        mem::forget(lane);
+        return Err(AllocError);
+    }
     Ok(run_lane(&rt, take, lane, losing_wire(alloc), AtOnce, &mut TellNobody))
 }
 
@@ -103,10 +106,12 @@ fn all_are_delivered(rt: HostRuntime) {
         "{totals:?}"
     );
     assert!(rt; is_whole(rt.alloc(), &end.wire.index) == Some(true));
+    mem::forget(end);
 }
 
 #[test]
 fn senders_that_do_not_close(rt: HostRuntime) {
     let end = run(rt, rt.alloc(), 3, false).expect(&rt, "a run");
     assert!(rt; end.kind == LaneEndKind::Gone && end.lane.totals().taken == 6);
+    mem::forget(end);
 }

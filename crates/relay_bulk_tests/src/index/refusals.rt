@@ -65,10 +65,12 @@ fn runs_one(index: &mut Index, write: &Write) -> bool {
 }
 
 fn applies(index: &mut Index, write: Option<Write>) -> bool {
-    match &write {
-        Some(write) => foretells(index, write) && runs_one(index, write),
-        None => false,
-    }
+    let Some(write) = write else {
+        return false;
+    };
+    let good = foretells(index, &write) && runs_one(index, &write);
+    mem::forget(write);
+    good
 }
 
 // Writes each document twice, each time with a higher version.

@@ -3,8 +3,16 @@ ghost use Rattle.relay_index.specs.Choices.{MayChoose};
 
 use relay_action::{Action, DocKey, Write};
 use relay_index::{Choice, Index, Script, may_refuse};
-use relay_results::{DoneResult, VersionConflict};
+use relay_results::{DoneResult, ItemDone, VersionConflict};
+use std::alloc::AllocError;
+use std::mem;
 use std::process::Abort;
+
+// A fresh index. It is leaked: to prove that an index can be dropped costs more than the rest of a
+// test.
+fn fresh<'i>(rt: &(impl Abort + AllocGlobal)) -> &'i mut Index {
+    Box::leak(Box::new(rt.alloc(), Index::new(rt.alloc())).expect(rt, "memory"))
+}
 
 /// The id, the version and the source of a write to a document of index `b`; a source of `None` is
 /// a delete.
@@ -39,7 +47,10 @@ fn said_of(rt: &impl Abort, index: &mut Index, write: &Write, choice: Choice) ->
 fn run(rt: &(impl Abort + AllocGlobal), index: &mut Index, row: Row, choice: Choice) -> Said
     requires { MayChoose choice }
 {
-    said_of(rt, index, &write_of(rt, row), choice)
+    let write = write_of(rt, row);
+    let said = said_of(rt, index, &write, choice);
+    mem::forget(write);
+    said
 }
 
 const RUNS: &[(Row<'static>, Said)] = &[
@@ -57,9 +68,9 @@ const RUNS: &[(Row<'static>, Said)] = &[
 // The table of results of a write, line by line.
 #[test]
 fn writes_that_run(rt: HostRuntime) {
-    let mut index = Index::new(rt.alloc());
+    let index = fresh(&rt);
     for (row, said) in RUNS {
-        assert!(rt; run(&rt, &mut index, *row, Choice::Run) == *said);
+        assert!(rt; run(&rt, index, *row, Choice::Run) == *said);
     }
 }
 
@@ -83,11 +94,11 @@ fn statuses_of_refusals(rt: HostRuntime) {
 // A refused write changes nothing: its version runs afterwards.
 #[test]
 fn writes_that_are_refused(rt: HostRuntime) {
-    let mut index = Index::new(rt.alloc());
+    let index = fresh(&rt);
     let row = ("2", 7, Some("{}"));
-    let refused = run(&rt, &mut index, row, Choice::Refuse(429));
+    let refused = run(&rt, index, row, Choice::Refuse(429));
     assert!(rt; refused == (429, DoneResult::Refused, 0, 0));
-    let created = run(&rt, &mut index, row, Choice::Run);
+    let created = run(&rt, index, row, Choice::Run);
     assert!(rt; created == (201, DoneResult::Created, 7, 0));
 }
 
@@ -123,14 +134,14 @@ const LOOK_UPS: &[(&str, (Option<u64>, Option<&str>, usize))] = &[
 // A document that exists, one that was deleted, one that was replaced, and one that never existed.
 #[test]
 fn look_ups(rt: HostRuntime) {
-    let mut index = Index::new(rt.alloc());
+    let index = fresh(&rt);
     assert!(rt; index.highest().is_none());
     for row in WRITES {
-        run(&rt, &mut index, *row, Choice::Run);
+        run(&rt, index, *row, Choice::Run);
     }
     assert!(rt; index.highest() == Some(9));
     for (id, wanted) in LOOK_UPS {
-        assert!(rt; look_up(&rt, &index, *id) == *wanted);
+        assert!(rt; look_up(&rt, index, *id) == *wanted);
     }
 }
 
@@ -143,6 +154,7 @@ fn delete_twice(rt: &(impl Abort + AllocGlobal), index: &mut Index, name: &str, 
     };
     said_of(rt, index, &write, Choice::Run);
     said_of(rt, index, &write, Choice::Run);
+    mem::forget(write);
 }
 
 // Whether a document has this index name and this id.
@@ -151,13 +163,20 @@ fn is(key: &DocKey, wanted: &(&str, &str)) -> bool {
     key.index() == name && key.id() == id
 }
 
+fn are(keys: &[DocKey], wanted: &[(&str, &str)]) -> bool {
+    for (key, row) in keys.iter().zip(wanted) {
+        if !is(key, row) {
+            return false;
+        }
+    }
+    keys.len() == wanted.len()
+}
+
 // Whether the documents of an index are these, in this order.
 fn has_keys(rt: &(impl Abort + AllocGlobal), index: &Index, wanted: &[(&str, &str)]) -> bool {
     let keys = index.keys(rt.alloc()).expect(rt, "memory");
-    let mut good = keys.len() == wanted.len();
-    for (key, row) in keys.iter().zip(wanted) {
-        good = good && is(key, row);
-    }
+    let good = are(&keys, wanted);
+    mem::forget(keys);
     good
 }
 
@@ -182,12 +201,16 @@ const IN_ORDER: &[(&str, &str)] = &[
 // Documents are in byte order, a name before those that begin with it, each once.
 #[test]
 fn documents_in_order(rt: HostRuntime) {
-    let mut index = Index::new(rt.alloc());
-    assert!(rt; has_keys(&rt, &index, &[]));
+    let index = fresh(&rt);
+    assert!(rt; has_keys(&rt, index, &[]));
     for (name, id) in DELETES {
-        delete_twice(&rt, &mut index, *name, *id);
+        delete_twice(&rt, index, *name, *id);
     }
-    assert!(rt; has_keys(&rt, &index, IN_ORDER));
+    assert!(rt; has_keys(&rt, index, IN_ORDER));
+}
+
+fn conflict_of(rt: &impl Abort, done: Result<ItemDone, AllocError>) -> Option<VersionConflict> {
+    done.expect(rt, "memory").conflict
 }
 
 // The versions that the index states for a delete of the document `2` with this version, if it were
@@ -198,28 +221,27 @@ fn states(
     version: u64,
 ) -> [Option<VersionConflict>; 3] {
     let write = write_of(rt, ("2", version, None));
-    let before = index.preview(&write, Choice::Run).expect(rt, "memory");
-    let refused = index
-        .preview(&write, Choice::Refuse(429))
-        .expect(rt, "memory");
-    let after = index.run(&write, Choice::Run).expect(rt, "memory");
-    [before.conflict, refused.conflict, after.conflict]
+    let before = conflict_of(rt, index.preview(&write, Choice::Run));
+    let refused = conflict_of(rt, index.preview(&write, Choice::Refuse(429)));
+    let after = conflict_of(rt, index.run(&write, Choice::Run));
+    mem::forget(write);
+    [before, refused, after]
 }
 
 // An index, after a write with version 5, states the versions of a conflict if it is told to, and
 // only then.
 #[test]
 fn stated_versions(rt: HostRuntime) {
-    let mut index = Index::new(rt.alloc());
-    run(&rt, &mut index, ("2", 5, Some("{}")), Choice::Run);
-    assert!(rt; states(&rt, &mut index, 3) == [None, None, None]);
+    let index = fresh(&rt);
+    run(&rt, index, ("2", 5, Some("{}")), Choice::Run);
+    assert!(rt; states(&rt, index, 3) == [None, None, None]);
     index.state_versions();
     let versions = Some(VersionConflict {
         stored: 5,
         provided: 3,
     });
-    assert!(rt; states(&rt, &mut index, 3) == [versions, None, versions]);
-    assert!(rt; states(&rt, &mut index, 6) == [None, None, None]);
+    assert!(rt; states(&rt, index, 3) == [versions, None, versions]);
+    assert!(rt; states(&rt, index, 6) == [None, None, None]);
 }
 
 /// A body, and the status and the text of its answer.
@@ -240,9 +262,10 @@ fn serves(
 
 // Whether a fresh index answers a body with this text, under a script that refuses nothing.
 fn serves_first(rt: &(impl Abort + AllocGlobal), body: &str, text: &str) -> bool {
-    let mut index = Index::new(rt.alloc());
     let mut script = Script::new(rt.alloc());
-    serves(rt, &mut index, &mut script, &(body, 200, text))
+    let good = serves(rt, fresh(rt), &mut script, &(body, 200, text));
+    mem::forget(script);
+    good
 }
 
 const BODIES: &[(&str, &str)] = &[
@@ -278,10 +301,10 @@ fn serves_all(
     script: &mut Script,
     rows: &[Served],
 ) -> (bool, Option<u64>) {
-    let mut index = Index::new(rt.alloc());
+    let index = fresh(rt);
     let mut good = true;
     for row in rows {
-        good = good && serves(rt, &mut index, script, row);
+        good = good && serves(rt, index, script, row);
     }
     (good, index.highest())
 }
@@ -309,6 +332,7 @@ fn scripted(rt: HostRuntime) {
     script.refuse(2, 503).expect(&rt, "memory");
     script.refuse(2, 429).expect(&rt, "memory");
     assert!(rt; serves_all(&rt, &mut script, SCRIPTED) == (true, Some(2)));
+    mem::forget(script);
 }
 
 const REJECTED: &[Served<'static>] = &[
@@ -336,4 +360,5 @@ fn rejected_bodies(rt: HostRuntime) {
     let mut script = Script::new(rt.alloc());
     script.refuse(1, 503).expect(&rt, "memory");
     assert!(rt; serves_all(&rt, &mut script, REJECTED) == (true, None));
+    mem::forget(script);
 }

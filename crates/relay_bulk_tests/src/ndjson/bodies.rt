@@ -2,6 +2,7 @@
 use relay_action::{Action, ActionFault, Write};
 use relay_ndjson::{BulkFault, LineKind, bulk_text, read_bulk};
 use std::alloc::Global;
+use std::mem;
 use std::process::Abort;
 
 const DELETE: &[u8] =
@@ -39,14 +40,24 @@ fn fault_of(rt: &impl Abort, alloc: Global, pieces: &[&[u8]]) -> Option<BulkFaul
     read_bulk(alloc, body.as_slice()).err()
 }
 
-// The fault of a line by itself. It is the same after writes and before other bad lines.
-fn fault_anywhere(rt: &impl Abort, alloc: Global, line: &[u8]) -> BulkFault {
-    let alone = fault_of(rt, alloc, &[line]).expect(rt, "a fault");
-    assert!(rt; fault_of(rt, alloc, &[line, b"[1]\n"]) == Some(alone));
-    assert!(rt; fault_of(rt, alloc, &[line, b"\n"]) == Some(alone));
-    assert!(rt; fault_of(rt, alloc, &[DELETE, line]) == at(2, alone.kind));
-    assert!(rt; fault_of(rt, alloc, &[INDEX, b"{}\n", line]) == at(3, alone.kind));
-    alone
+// What is before a line and after it, and the number of that line.
+const AROUND: &[([&[u8]; 2], &[u8], u64)] = &[
+    ([b"", b""], b"", 1),
+    ([b"", b""], b"[1]\n", 1),
+    ([b"", b""], b"\n", 1),
+    ([DELETE, b""], b"", 2),
+    ([INDEX, b"{}\n"], b"", 3),
+];
+
+// Whether a line has this fault, by itself and after writes and before other bad lines.
+fn is_anywhere(rt: &impl Abort, alloc: Global, line: &[u8], kind: LineKind) -> bool {
+    for (before, after, number) in AROUND {
+        let pieces = [before[0], before[1], line, *after];
+        if fault_of(rt, alloc, &pieces) != at(*number, kind) {
+            return false;
+        }
+    }
+    true
 }
 
 const NO_ACTION: &[(&[u8], LineKind)] = &[
@@ -62,14 +73,14 @@ const NO_ACTION: &[(&[u8], LineKind)] = &[
 #[test]
 fn lines_that_are_no_action(rt: HostRuntime) {
     for (line, kind) in NO_ACTION {
-        assert!(rt; Some(fault_anywhere(&rt, rt.alloc(), *line)) == at(1, *kind));
+        assert!(rt; is_anywhere(&rt, rt.alloc(), *line, *kind));
     }
 }
 
-// The fault of a delete with this metadata.
-fn fault_of_metadata(rt: &impl Abort, alloc: Global, metadata: &[u8]) -> BulkFault {
+// Whether a delete with this metadata has this fault.
+fn is_of_metadata(rt: &impl Abort, alloc: Global, metadata: &[u8], kind: LineKind) -> bool {
     let line = joined(rt, alloc, &[b"{\"delete\":{", metadata, b"}}\n"]);
-    fault_anywhere(rt, alloc, line.as_slice())
+    is_anywhere(rt, alloc, line.as_slice(), kind)
 }
 
 const METADATA_IN_ORDER: &[(&[u8], LineKind)] = &[
@@ -92,7 +103,7 @@ const METADATA_IN_ORDER: &[(&[u8], LineKind)] = &[
 #[test]
 fn order_of_metadata(rt: HostRuntime) {
     for (metadata, kind) in METADATA_IN_ORDER {
-        assert!(rt; Some(fault_of_metadata(&rt, rt.alloc(), *metadata)) == at(1, *kind));
+        assert!(rt; is_of_metadata(&rt, rt.alloc(), *metadata, *kind));
     }
 }
 
@@ -125,7 +136,6 @@ const BAD_VERSIONS: &[(&[u8], &[u8])] = &[
 
 #[test]
 fn versions(rt: HostRuntime) {
-    let missing = at(1, LineKind::VersionMissing);
     for (version, version_type) in BAD_VERSIONS {
         let metadata = joined(
             &rt,
@@ -137,7 +147,8 @@ fn versions(rt: HostRuntime) {
                 *version_type,
             ],
         );
-        assert!(rt; Some(fault_of_metadata(&rt, rt.alloc(), metadata.as_slice())) == missing);
+        let missing = LineKind::VersionMissing;
+        assert!(rt; is_of_metadata(&rt, rt.alloc(), metadata.as_slice(), missing));
     }
 }
 
@@ -234,6 +245,11 @@ fn is_of(write: &Write, id: &str, version: u64) -> bool {
     write.key.id() == id && write.version == version
 }
 
+// Whether a write to the index `books` has this id, this version and this source.
+fn is_in_books(write: &Write, id: &str, version: u64, source: Option<&str>) -> bool {
+    write.key.index() == "books" && is_of(write, id, version) && has_source(write, source)
+}
+
 // Whether a write has this source, or deletes if none is given.
 fn has_source(write: &Write, source: Option<&str>) -> bool {
     match &write.action {
@@ -245,20 +261,24 @@ fn has_source(write: &Write, source: Option<&str>) -> bool {
 const TWO_LINES: &[u8] =
     b"{\"index\":{\"_id\":\"1\",\"_index\":\"books\",\"version\":1,\"version_type\":\"external\"}}\n{\"title\": \"Emma\"}\n{\"delete\":{\"_id\":\"2\",\"_index\":\"books\",\"version\":2,\"version_type\":\"external\"}}\n";
 
+// Whether these are the writes of the two lines.
+fn are_two(writes: &[Write]) -> bool {
+    match writes {
+        [one, other] => {
+            is_in_books(one, "1", 1, Some("{\"title\": \"Emma\"}"))
+                && is_in_books(other, "2", 2, None)
+        }
+        _ => false,
+    }
+}
+
 // What was written for two writes reads back as them, and they are written as that text.
 #[test]
 fn there_and_back(rt: HostRuntime) {
     let writes = read_bulk(rt.alloc(), TWO_LINES).expect(&rt, "two writes");
-    assert!(rt; writes.len() == 2);
-    for write in &writes {
-        assert!(rt; write.key.index() == "books");
-    }
-    assert!(rt; is_of(&writes[0], "1", 1));
-    assert!(rt; has_source(&writes[0], Some("{\"title\": \"Emma\"}")));
-    assert!(rt; is_of(&writes[1], "2", 2));
-    assert!(rt; has_source(&writes[1], None));
     let text = bulk_text(rt.alloc(), &writes).expect(&rt, "memory");
-    assert!(rt; text.as_slice() == TWO_LINES);
+    assert!(rt; are_two(&writes) && text.as_slice() == TWO_LINES);
+    mem::forget((writes, text));
 }
 
 #[test]
@@ -273,19 +293,17 @@ fn another_form(rt: HostRuntime) {
         b"{\"index\":{\"version_type\":\"external\",\"version\":3,\"_index\":\"b\",\"_id\":-9}}\r\n{}\r\n";
     let writes = read_bulk(rt.alloc(), text).expect(&rt, "a write");
     assert!(rt; writes.len() == 1);
-    assert!(rt; is_of(&writes[0], "-9", 3));
-    assert!(rt; has_source(&writes[0], Some("{}")));
+    assert!(rt; is_of(&writes[0], "-9", 3) && has_source(&writes[0], Some("{}")));
+    mem::forget(writes);
 }
 
 // A failed allocation has its own fault.
 #[test]
 fn refusals(rt: HostRuntime) {
-    let found = read_bulk(rt.alloc(), DELETE).map(|writes| writes.len());
-    let memory = BulkFault {
-        line: 1,
-        kind: LineKind::Memory,
-    };
-    assert!(rt; found == Ok(1) || found == Err(memory));
+    match read_bulk(rt.alloc(), DELETE) {
+        Ok(writes) => assert!(rt; writes.len() == 1),
+        Err(fault) => assert!(rt; Some(fault) == at(1, LineKind::Memory)),
+    }
 }
 
 const NAMES: &[(LineKind, &str)] = &[
@@ -315,7 +333,6 @@ const NAMES: &[(LineKind, &str)] = &[
 fn names(rt: HostRuntime) {
     for (kind, name) in NAMES {
         let printed = format!(in rt.alloc(); "{kind}").expect(&rt, "memory");
-        assert!(rt; kind.name() == *name);
-        assert!(rt; printed.as_str() == *name);
+        assert!(rt; kind.name() == *name && printed.as_str() == *name);
     }
 }

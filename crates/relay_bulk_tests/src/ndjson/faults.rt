@@ -26,9 +26,17 @@ pub fn stream_of(
     MemStream::new(alloc, input, 0, piece, fail_at).expect(rt, "memory")
 }
 
+/// Whether the next result is an operation, and not the end.
+pub fn gives_next(input: &mut Input<MemStream>) -> Result<bool, InputFault> {
+    match input.next() {
+        Ok(next) => Ok(next.is_some()),
+        Err(fault) => Err(fault),
+    }
+}
+
 /// The fault, if the next result is Failed on its line.
 pub fn settled(input: &mut Input<MemStream>, fault: InputFault) -> Option<InputFault> {
-    if input.next().err() == at(fault.line, LineKind::Failed) {
+    if gives_next(input).err() == at(fault.line, LineKind::Failed) {
         Some(fault)
     } else {
         at(0, LineKind::Failed)
@@ -38,9 +46,9 @@ pub fn settled(input: &mut Input<MemStream>, fault: InputFault) -> Option<InputF
 // The first fault of an input, or the result after it if that is not Failed.
 fn first_fault(input: &mut Input<MemStream>) -> Option<InputFault> {
     for _ in 0..100_000u64 {
-        match input.next() {
-            Ok(Some(_)) => {}
-            Ok(None) => return input.next().err(),
+        match gives_next(input) {
+            Ok(true) => {}
+            Ok(false) => return gives_next(input).err(),
             Err(fault) => return settled(input, fault),
         }
     }
@@ -221,7 +229,7 @@ fn fault_at_limit(rt: &impl Abort, alloc: Global, end: &[u8]) -> Option<InputFau
     let mut text = Vec::from_elem(alloc, b'x', 1_114_112).expect(rt, "memory");
     text.extend_from_slice(end).expect(rt, "memory");
     let stream = MemStream::new(alloc, text, 0, 50_000, 0).expect(rt, "memory");
-    Input::new(alloc, stream, None).next().err()
+    gives_next(&mut Input::new(alloc, stream, None)).err()
 }
 
 // Lines of 1,114,112 bytes and of one more, with each end. Their text is not JSON, which is found

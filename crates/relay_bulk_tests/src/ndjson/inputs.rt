@@ -1,8 +1,9 @@
 //! The operations of an input and their lines, and failures in the middle.
-use crate::ndjson::faults::{at, settled, stream_of};
+use crate::ndjson::faults::{at, gives_next, settled, stream_of};
 use relay_action::{Action, DocKey, MemStream};
 use relay_ndjson::{Input, InputFault, LineKind, Parser};
 use std::alloc::{AllocError, Global};
+use std::mem;
 use std::process::Abort;
 
 // Whether a document has this id and this index.
@@ -28,7 +29,7 @@ fn gives(input: &mut Input<MemStream>, id: &str, index: &str, source: Option<&st
 
 // Whether the next result is the end.
 fn ends(input: &mut Input<MemStream>) -> bool {
-    matches!(input.next(), Ok(None))
+    gives_next(input) == Ok(false)
 }
 
 // An input in pieces of five bytes, with the default index `b`.
@@ -37,19 +38,24 @@ fn input_of(rt: &impl Abort, alloc: Global, text: &[u8]) -> Input<'static, MemSt
     Input::new(alloc, stream, Some("b"))
 }
 
+fn has_operations(input: &mut Input<MemStream>) -> bool {
+    input.line() == 0
+        && gives(input, "7", "b", None)
+        && input.line() == 1
+        && gives(input, "-9", "c", Some("{\"a\":1}"))
+        && input.line() == 3
+        && ends(input)
+        && ends(input)
+}
+
 // The input has a delete and a write, on the lines 1 and 3, and then no more, however often it is
 // asked.
 #[test]
 fn operations_and_their_lines(rt: HostRuntime) {
     let text = b"{\"delete\":{\"_id\":7}}\n\n{\"index\":{\"_id\":-9,\"_index\":\"c\"}}\n{\"a\":1}";
     let mut input = input_of(&rt, rt.alloc(), text);
-    assert!(rt; input.line() == 0);
-    assert!(rt; gives(&mut input, "7", "b", None));
-    assert!(rt; input.line() == 1);
-    assert!(rt; gives(&mut input, "-9", "c", Some("{\"a\":1}")));
-    assert!(rt; input.line() == 3);
-    assert!(rt; ends(&mut input));
-    assert!(rt; ends(&mut input));
+    assert!(rt; has_operations(&mut input));
+    mem::forget(input);
 }
 
 // Lines in the usual form and in others, and their meaning.
@@ -124,8 +130,8 @@ const FORMS: &[(&[u8], &str, &str, Option<&str>)] = &[
 fn forms_of_action_lines(rt: HostRuntime) {
     for (text, id, index, source) in FORMS {
         let mut input = input_of(&rt, rt.alloc(), *text);
-        assert!(rt; gives(&mut input, *id, *index, *source));
-        assert!(rt; ends(&mut input));
+        assert!(rt; gives(&mut input, *id, *index, *source) && ends(&mut input));
+        mem::forget(input);
     }
 }
 
@@ -134,9 +140,9 @@ fn forms_of_action_lines(rt: HostRuntime) {
 fn given_until(input: &mut Input<MemStream>) -> (u64, Option<InputFault>) {
     let mut given = 0u64;
     for _ in 0..4u8 {
-        match input.next() {
-            Ok(Some(_)) => given = given.saturating_add(1),
-            Ok(None) => return (given, None),
+        match gives_next(input) {
+            Ok(true) => given = given.saturating_add(1),
+            Ok(false) => return (given, None),
             Err(fault) => return (given, settled(input, fault)),
         }
     }
@@ -184,6 +190,14 @@ fn each_read_fails_in_turn(rt: HostRuntime) {
 // Whether a parser needs no read for each result, and whether the result is an operation.
 const STEPS: &[(bool, bool)] = &[(false, true), (true, true), (false, false)];
 
+// Whether the next result of a parser is an operation. `None`: it is a fault.
+fn has_more(parser: &mut Parser, stream: &mut MemStream) -> Option<bool> {
+    match parser.next(stream) {
+        Ok(next) => Some(next.is_some()),
+        Err(_) => None,
+    }
+}
+
 // Whether the next call of a parser needs no read. The text is read in one piece.
 #[test]
 fn readiness_of_a_parser(rt: HostRuntime) {
@@ -192,10 +206,11 @@ fn readiness_of_a_parser(rt: HostRuntime) {
     let mut stream = stream_of(&rt, rt.alloc(), text, 1000, 0);
     let mut parser = Parser::new(rt.alloc(), None);
     for (ready, more) in STEPS {
-        assert!(rt; parser.is_ready() == *ready);
-        let next = parser.next(&mut stream).map(|next| next.is_some());
-        assert!(rt; next == Ok(*more));
+        assert!(rt;
+            parser.is_ready() == *ready && has_more(&mut parser, &mut stream) == Some(*more)
+        );
     }
+    mem::forget((stream, parser));
 }
 
 // Whether the next call of an input needs no read. It says twice that it may need one, and ends.
@@ -203,9 +218,9 @@ fn readiness_of_a_parser(rt: HostRuntime) {
 fn readiness_of_an_input(rt: HostRuntime) {
     let mut input = input_of(&rt, rt.alloc(), b"\n\n\n\n");
     for _ in 0..2u8 {
-        assert!(rt; !input.is_ready());
-        assert!(rt; ends(&mut input));
+        assert!(rt; !input.is_ready() && ends(&mut input));
     }
+    mem::forget(input);
 }
 
 // The faults of the first and the second call, for an input of one delete.
@@ -213,8 +228,8 @@ fn faults_of_delete(alloc: Global) -> Result<(Option<InputFault>, Option<InputFa
     let text = b"{\"delete\":{\"_id\":\"1\",\"_index\":\"b\"}}\n";
     let stream = MemStream::new(alloc, text.to_vec(alloc)?, 0, 1000, 0)?;
     let mut input = Input::new(alloc, stream, None);
-    let first = input.next().err();
-    Ok((first, input.next().err()))
+    let first = gives_next(&mut input).err();
+    Ok((first, gives_next(&mut input).err()))
 }
 
 // A failed allocation has its own fault, and nothing is tried again afterwards.

@@ -3,6 +3,7 @@ use crate::ndjson::faults::{at, stream_of};
 use relay_action::{Action, ActionKind, MemStream};
 use relay_ndjson::{InputFault, LineEnd, LineKind, LineReader};
 use std::alloc::Global;
+use std::mem;
 use std::process::Abort;
 
 const INPUT: &[u8] = b"a b\r\n\nc\rd\n\re\r";
@@ -19,23 +20,34 @@ fn is_line(lines: &LineReader, text: &[u8], end: LineEnd, number: u64) -> bool {
     lines.text() == text && lines.end() == end && lines.count() == number
 }
 
-// The lines of the input, with their numbers, from pieces of several sizes. If the first read
-// returned all of it, the first two leave a line ready.
+// Whether there is another line, which is taken. `None`: a read failed.
+fn takes_one(lines: &mut LineReader, stream: &mut MemStream) -> Option<bool> {
+    lines.next(stream).ok()
+}
+
+// Whether the lines of the input are taken. If the first read returns all of it, a line is ready
+// after the first two.
+fn takes_each(lines: &mut LineReader, stream: &mut MemStream, at_once: bool) -> bool {
+    let mut number: u64 = 0;
+    for (text, end) in TEXTS {
+        number = number.saturating_add(1);
+        let taken = takes_one(lines, stream) == Some(true) && is_line(lines, *text, *end, number);
+        if !taken || at_once && lines.is_ready() != (number < 3) {
+            return false;
+        }
+    }
+    takes_one(lines, stream) == Some(false) && lines.count() == 4
+}
+
+// The lines of the input, with their numbers, from pieces of several sizes.
 #[test]
 fn lines_one_after_another(rt: HostRuntime) {
     for piece in [1usize, 3, 100] {
         let mut stream = stream_of(&rt, rt.alloc(), INPUT, piece.max(1), 0);
         let mut lines = LineReader::new(rt.alloc());
-        assert!(rt; !lines.is_ready());
-        let mut number: u64 = 0;
-        for (text, end) in TEXTS {
-            number = number.saturating_add(1);
-            assert!(rt; lines.next(&mut stream) == Ok(true));
-            assert!(rt; is_line(&lines, *text, *end, number));
-            assert!(rt; piece < INPUT.len() || lines.is_ready() == (number < 3));
-        }
-        assert!(rt; lines.next(&mut stream) == Ok(false));
-        assert!(rt; lines.count() == 4);
+        let at_once = piece >= INPUT.len();
+        assert!(rt; !lines.is_ready() && takes_each(&mut lines, &mut stream, at_once));
+        mem::forget((stream, lines));
     }
 }
 
@@ -44,11 +56,11 @@ fn lines_one_after_another(rt: HostRuntime) {
 fn a_line_that_is_not_whole_is_not_counted(rt: HostRuntime) {
     let mut stream = stream_of(&rt, rt.alloc(), INPUT, 6, 2);
     let mut lines = LineReader::new(rt.alloc());
-    assert!(rt; lines.next(&mut stream) == Ok(true));
-    assert!(rt; lines.next(&mut stream) == Ok(true));
+    assert!(rt; takes_one(&mut lines, &mut stream) == Some(true));
+    assert!(rt; takes_one(&mut lines, &mut stream) == Some(true));
     let fault = lines.next(&mut stream).expect_err(&rt, "a read fails");
-    assert!(rt; fault.line == 3);
-    assert!(rt; lines.count() == 2);
+    assert!(rt; fault.line == 3 && lines.count() == 2);
+    mem::forget((stream, lines));
 }
 
 const ENDS: &[(LineEnd, &[u8])] = &[
@@ -95,26 +107,32 @@ fn stores(lines: &mut LineReader, alloc: Global, stream: &mut MemStream, text: &
 
 /// Whether there is no further action line.
 fn ends(lines: &mut LineReader, alloc: Global, stream: &mut MemStream) -> bool {
-    matches!(lines.next_action(alloc, stream, Some("b")), Ok(None))
+    match lines.next_action(alloc, stream, Some("b")) {
+        Ok(next) => next.is_none(),
+        Err(_) => false,
+    }
 }
 
-// Exactly the two operations are taken, with their lines.
+// Whether exactly the two operations are taken, with their lines.
+fn takes_operations(lines: &mut LineReader, alloc: Global, stream: &mut MemStream) -> bool {
+    asks(lines, alloc, stream, (ActionKind::Delete, "c", "1"))
+        && is_line(lines, DELETE, LineEnd::ReturnFeed, 2)
+        && asks(lines, alloc, stream, (ActionKind::Index, "b", "2"))
+        && is_line(lines, INDEX, LineEnd::Feed, 4)
+        && stores(lines, alloc, stream, " {\"a\":1}")
+        && is_line(lines, b" {\"a\":1}", LineEnd::Open, 5)
+        && ends(lines, alloc, stream)
+        && lines.count() == 5
+}
+
 #[test]
 fn lines_of_operations(rt: HostRuntime) {
     let alloc = rt.alloc();
     for piece in [1usize, 7, 100] {
         let mut stream = stream_of(&rt, alloc, OPERATIONS, piece.max(1), 0);
         let mut lines = LineReader::new(alloc);
-        let delete = (ActionKind::Delete, "c", "1");
-        assert!(rt; asks(&mut lines, alloc, &mut stream, delete));
-        assert!(rt; is_line(&lines, DELETE, LineEnd::ReturnFeed, 2));
-        let index = (ActionKind::Index, "b", "2");
-        assert!(rt; asks(&mut lines, alloc, &mut stream, index));
-        assert!(rt; is_line(&lines, INDEX, LineEnd::Feed, 4));
-        assert!(rt; stores(&mut lines, alloc, &mut stream, " {\"a\":1}"));
-        assert!(rt; is_line(&lines, b" {\"a\":1}", LineEnd::Open, 5));
-        assert!(rt; ends(&mut lines, alloc, &mut stream));
-        assert!(rt; lines.count() == 5);
+        assert!(rt; takes_operations(&mut lines, alloc, &mut stream));
+        mem::forget((stream, lines));
     }
 }
 
@@ -124,7 +142,9 @@ fn source_fault(rt: &impl Abort, alloc: Global, input: &[u8]) -> Option<InputFau
     let mut lines = LineReader::new(alloc);
     let index = (ActionKind::Index, "b", "2");
     assert!(rt; asks(&mut lines, alloc, &mut stream, index));
-    lines.next_source(alloc, &mut stream).err()
+    let fault = lines.next_source(alloc, &mut stream).err();
+    mem::forget((stream, lines));
+    fault
 }
 
 const SOURCES: &[(&[u8], u64, LineKind)] = &[

@@ -8,6 +8,7 @@ use relay_ndjson::{
     append_write, bulk_text, read_action, read_bulk, read_source, write_write,
 };
 use std::alloc::{AllocError, Global};
+use std::mem;
 
 const ID: &str = "an id with a \"quote\", of more than thirty-eight bytes";
 
@@ -34,14 +35,20 @@ fn write_once(alloc: Global, version: u64) -> Option<Write> {
 }
 
 fn write_of(alloc: Global, version: u64) -> Option<Write> {
-    write_once(alloc, version).or_else(|| write_once(alloc, version))
+    match write_once(alloc, version) {
+        None => write_once(alloc, version),
+        made => made,
+    }
 }
 
 /// A text of one byte.
 const BEGUN: &[u8] = b"x";
 
 fn begun(alloc: Global) -> Option<Vec<u8>> {
-    BEGUN.to_vec(alloc).or_else(|_| BEGUN.to_vec(alloc)).ok()
+    match BEGUN.to_vec(alloc) {
+        Ok(text) => Some(text),
+        Err(_) => BEGUN.to_vec(alloc).ok(),
+    }
 }
 
 // Appends the lines of a write, or only its action line.
@@ -63,16 +70,19 @@ fn appends(alloc: Global, text: &mut Vec<u8>, write: &Write, whole: bool) -> boo
 
 // Whether the lines of a write, or its action line, are added to the end of a text.
 fn has_lines(alloc: Global, write: &Write, whole: bool) -> Option<bool> {
-    let mut text = begun(alloc)?;
-    let good = appends(alloc, &mut text, write, whole);
     let line = INDEXED.len().saturating_sub(SOURCE.len()).saturating_sub(1);
     let wanted = INDEXED.get(..(if whole { INDEXED.len() } else { line }))?;
-    Some(good && text.as_slice() == wanted)
+    let mut text = begun(alloc)?;
+    let good = appends(alloc, &mut text, write, whole) && text.as_slice() == wanted;
+    mem::forget(text);
+    Some(good)
 }
 
 fn has_lines_of(alloc: Global, whole: bool) -> Option<bool> {
     let write = write_of(alloc, 7)?;
-    has_lines(alloc, &write, whole)
+    let good = has_lines(alloc, &write, whole);
+    mem::forget(write);
+    good
 }
 
 #[test]
@@ -97,8 +107,9 @@ fn appends_all(text: &mut Vec<u8>, writes: &[Write]) -> bool {
 
 fn has_all(alloc: Global, writes: &[Write]) -> Option<bool> {
     let mut text = begun(alloc)?;
-    let good = appends_all(&mut text, writes);
-    Some(good && text.as_slice() == BOTH)
+    let good = appends_all(&mut text, writes) && text.as_slice() == BOTH;
+    mem::forget(text);
+    Some(good)
 }
 
 fn text_of(alloc: Global, writes: &[Write]) -> Option<Vec<u8>> {
@@ -113,9 +124,21 @@ fn has_text(alloc: Global, writes: &[Write]) -> Option<bool> {
     Some(BOTH.get(BEGUN.len()..) == Some(text.as_slice()))
 }
 
+fn two_writes(alloc: Global) -> Option<[Write; 2]> {
+    let one = write_of(alloc, 7)?;
+    let Some(other) = write_of(alloc, 8) else {
+        mem::forget(one);
+        return None;
+    };
+    Some([one, other])
+}
+
 fn are_appended(alloc: Global) -> Option<bool> {
-    let writes = [write_of(alloc, 7)?, write_of(alloc, 8)?];
-    Some(has_all(alloc, writes.as_slice())? && has_text(alloc, writes.as_slice())?)
+    let writes = two_writes(alloc)?;
+    let good = has_all(alloc, writes.as_slice()) == Some(true)
+        && has_text(alloc, writes.as_slice()) == Some(true);
+    mem::forget(writes);
+    Some(good)
 }
 
 #[test]
@@ -128,7 +151,10 @@ fn stream_once(alloc: Global, input: &[u8]) -> Option<MemStream> {
 }
 
 fn stream_of(alloc: Global, input: &[u8]) -> Option<MemStream> {
-    stream_once(alloc, input).or_else(|| stream_once(alloc, input))
+    match stream_once(alloc, input) {
+        None => stream_once(alloc, input),
+        made => made,
+    }
 }
 
 // Whether the lines of a write are written, by a second call if the first was refused before
@@ -145,13 +171,17 @@ fn goes_out(alloc: Global, out: &mut MemStream, write: &Write) -> bool {
 
 fn has_gone_out(alloc: Global, write: &Write) -> Option<bool> {
     let mut out = stream_of(alloc, b"")?;
-    let good = goes_out(alloc, &mut out, write);
-    Some(good && INDEXED.get(BEGUN.len()..) == Some(out.written()))
+    let good = goes_out(alloc, &mut out, write)
+        && INDEXED.get(BEGUN.len()..) == Some(out.written());
+    mem::forget(out);
+    Some(good)
 }
 
 fn writes_out(alloc: Global) -> Option<bool> {
     let write = write_of(alloc, 7)?;
-    has_gone_out(alloc, &write)
+    let good = has_gone_out(alloc, &write);
+    mem::forget(write);
+    good
 }
 
 #[test]
@@ -213,10 +243,16 @@ const ACTIONS: &[(&[u8], &str)] = &[
     ),
 ];
 
+fn is_document(key: &DocKey, id: &str) -> bool {
+    key.index() == "books" && key.id() == id
+}
+
 // Whether an action line is read as the index action on the document of this id.
 fn read_key(alloc: Global, line: &[u8], scratch: &mut Scratch, id: &str) -> Result<bool, LineKind> {
-    let (kind, key) = read_action(alloc, None, line, scratch)?;
-    Ok(kind == ActionKind::Index && key.index() == "books" && key.id() == id)
+    match read_action(alloc, None, line, scratch) {
+        Ok((kind, key)) => Ok(kind == ActionKind::Index && is_document(&key, id)),
+        Err(kind) => Err(kind),
+    }
 }
 
 // The same, by a second call with the same scratch if the first was refused.
@@ -286,7 +322,7 @@ enum Step {
 }
 
 fn step_to(key: &DocKey, action: &Action) -> Step {
-    if key.id() != ID || key.index() != "books" {
+    if !is_document(key, ID) {
         Step::Other
     } else if is_source(action) {
         Step::Indexes
@@ -422,7 +458,7 @@ fn asks(
     wanted: ActionKind,
 ) -> Result<bool, LineKind> {
     match lines.next_action(alloc, stream, None) {
-        Ok(Some((kind, key))) => Ok(kind == wanted && key.id() == ID && key.index() == "books"),
+        Ok(Some((kind, key))) => Ok(kind == wanted && is_document(&key, ID)),
         Ok(None) => Ok(false),
         Err(fault) => Err(fault.kind),
     }
@@ -449,7 +485,9 @@ fn takes_operations(
 fn take_operations(alloc: Global) -> Option<Result<bool, LineKind>> {
     let mut stream = stream_of(alloc, INPUT)?;
     let mut lines = LineReader::new(alloc);
-    Some(takes_operations(&mut lines, alloc, &mut stream))
+    let taken = takes_operations(&mut lines, alloc, &mut stream);
+    mem::forget((stream, lines));
+    Some(taken)
 }
 
 #[test]
@@ -486,14 +524,22 @@ fn takes_line(lines: &mut LineReader, stream: &mut MemStream, line: &[u8]) -> bo
     }
 }
 
+// Whether the lines are the next ones, and the last.
+fn takes_each(lines: &mut LineReader, stream: &mut MemStream) -> bool {
+    for line in LINES {
+        if !takes_line(lines, stream, line) {
+            return false;
+        }
+    }
+    lines.next(stream) == Ok(false)
+}
+
 fn takes_lines(alloc: Global) -> Option<bool> {
     let mut stream = stream_of(alloc, TEXT)?;
     let mut lines = LineReader::new(alloc);
-    let mut good = true;
-    for line in LINES {
-        good = takes_line(&mut lines, &mut stream, line) && good;
-    }
-    Some(good && lines.next(&mut stream) == Ok(false))
+    let good = takes_each(&mut lines, &mut stream);
+    mem::forget((stream, lines));
+    Some(good)
 }
 
 #[test]

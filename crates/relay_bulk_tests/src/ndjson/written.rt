@@ -5,6 +5,7 @@ use relay_ndjson::{
     write_len, write_write,
 };
 use std::alloc::Global;
+use std::mem;
 use std::process::Abort;
 
 const TWO_LINES: &[u8] =
@@ -42,8 +43,7 @@ fn bulk_text_of_two_writes(rt: HostRuntime) {
     let text = bulk_text(rt.alloc(), &writes).expect(&rt, "memory");
     assert!(rt; text.as_slice() == TWO_LINES);
     assert!(rt; writes.len() == 2);
-    assert!(rt; bulk_len(&writes) == 173);
-    assert!(rt; write_len(&writes[1]) == 78);
+    assert!(rt; bulk_len(&writes) == 173 && write_len(&writes[1]) == 78);
 }
 
 #[test]
@@ -58,8 +58,13 @@ fn a_write_is_appended(rt: HostRuntime) {
     let write = deletion(&rt, rt.alloc());
     let mut text = b"x".to_vec(rt.alloc()).expect(&rt, "memory");
     append_write(rt.alloc(), &mut text, &write).expect(&rt, "memory");
-    assert!(rt; text.len() == 79);
-    assert!(rt; text.as_slice().starts_with(b"x{\"delete\""));
+    assert!(rt; text.len() == 79 && text.as_slice().starts_with(b"x{\"delete\""));
+    mem::forget(write);
+}
+
+// Whether a text is a byte, an action line and two writes.
+fn is_appended(text: &[u8]) -> bool {
+    text.len() == 251 && text.starts_with(b"x{\"index\"") && text.ends_with(TWO_LINES)
 }
 
 // The action line of a write is added to what was there before, without its source, and then the
@@ -71,10 +76,8 @@ fn an_action_line_and_writes_are_appended(rt: HostRuntime) {
     let mut text = b"x".to_vec(rt.alloc()).expect(&rt, "memory");
     append_action_line(rt.alloc(), &mut text, &write).expect(&rt, "memory");
     append_bulk(&mut text, &writes).expect(&rt, "memory");
-    assert!(rt; text.len() == 251);
-    assert!(rt; text.as_slice().starts_with(b"x{\"index\""));
-    assert!(rt; text.as_slice().ends_with(TWO_LINES));
-    assert!(rt; !has_escapes(&write));
+    assert!(rt; is_appended(text.as_slice()) && !has_escapes(&write));
+    mem::forget((write, writes));
 }
 
 // A delete with texts of which some characters are escaped in JSON strings and others are not.
@@ -93,12 +96,12 @@ fn texts_are_escaped(rt: HostRuntime) {
     let wanted =
         b"{\"delete\":{\"_id\":\"\\b\\t\\n\\f\\r\\\"\\\\/\\u001f\",\"_index\":\"\xc3\xa9\x7f\",\"version\":18446744073709551615,\"version_type\":\"external\"}}\n";
     let write = deletion_of_signs(&rt, rt.alloc());
-    assert!(rt; has_escapes(&write));
+    assert!(rt; has_escapes(&write) && write_len(&write) == wanted.len() as u64);
     let nothing = Vec::new(rt.alloc());
     let mut out = MemStream::new(rt.alloc(), nothing, 1000, 3, 0).expect(&rt, "memory");
     write_write(rt.alloc(), &mut out, &write).expect(&rt, "a write");
     assert!(rt; out.written() == wanted.as_slice());
-    assert!(rt; write_len(&write) == wanted.len() as u64);
+    mem::forget((write, out));
 }
 
 // The result if this call of the stream fails while a write is written in pieces of seven bytes,
@@ -111,7 +114,9 @@ fn written_until(
 ) -> (Result<(), TextFault>, u64) {
     let mut out = MemStream::new(alloc, Vec::new(alloc), 100, 7, fail_at).expect(rt, "memory");
     let answer = write_write(alloc, &mut out, write);
-    (answer, out.written().len() as u64)
+    let sent = out.written().len() as u64;
+    mem::forget(out);
+    (answer, sent)
 }
 
 // Each call of writing in pieces of seven bytes fails in turn: exactly the bytes before it were
@@ -125,4 +130,5 @@ fn each_write_fails_in_turn(rt: HostRuntime) {
         assert!(rt; written_until(&rt, rt.alloc(), &write, fail_at) == (failed, sent));
     }
     assert!(rt; written_until(&rt, rt.alloc(), &write, 13) == (Ok(()), 78));
+    mem::forget(write);
 }

@@ -5,6 +5,7 @@ use relay_results::{
     write_reply,
 };
 use std::alloc::Global;
+use std::mem;
 use std::process::Abort;
 
 // A write of the document with this id.
@@ -353,14 +354,18 @@ fn forms_of_replies(rt: HostRuntime) {
 // An entry: its action, its document, its status and its error.
 type Entry = (ActionKind, &'static str, u16, Option<&'static str>);
 
+fn are_entries(outcomes: &[Outcome], wanted: &[Entry]) -> bool {
+    for (outcome, (kind, id, status, error)) in outcomes.iter().zip(wanted) {
+        if !is_entry(outcome, *kind, *id, *status, *error) {
+            return false;
+        }
+    }
+    outcomes.len() == wanted.len()
+}
+
 // Whether a reply has these entries.
 fn has_entries(rt: &(impl Abort + AllocGlobal), text: &str, wanted: &[Entry]) -> bool {
-    let outcomes = entries_of(rt, text);
-    let mut same = outcomes.len() == wanted.len();
-    for (outcome, (kind, id, status, error)) in outcomes.iter().zip(wanted) {
-        same = same && is_entry(outcome, *kind, *id, *status, *error);
-    }
-    same
+    are_entries(&entries_of(rt, text), wanted)
 }
 
 // All entries of a reply in the usual form, in order.
@@ -558,4 +563,5 @@ fn written_replies(rt: HostRuntime) {
         {\"delete\":{\"_id\":\"2\",\"_index\":\"b\",\"_seq_no\":3,\"_version\":8,\"result\":\"deleted\",\"status\":200}},\
         {\"delete\":{\"_id\":\"2\",\"_index\":\"b\",\"error\":{\"type\":\"scripted_refusal\"},\"status\":429}}],\"took\":0}";
     assert!(rt; is_written(&rt, 0, &items, all));
+    mem::forget(items);
 }

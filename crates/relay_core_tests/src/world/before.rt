@@ -1,7 +1,8 @@
 //! Worlds over an index that already has versions.
+use crate::desk::{lane_of, put};
 use crate::world::script::{THREE, accepts, world_over};
-use relay_action::{Action, Body, DocKey, List, Mail, Op, Write};
-use relay_core::{Lane, RelayConfig};
+use relay_action::{Action, DocKey, List, Write};
+use relay_core::{Lane, RelayConfig, Settled};
 use relay_index::{Choice, Index};
 use relay_results::{Loss, Outcome};
 use relay_world::{Event, StepAnswer, World};
@@ -21,6 +22,7 @@ fn delete_at_five(rt: &impl Abort, alloc: Global, index: &mut Index, id: &str) {
         action: Action::delete(),
     };
     index.run(&write, Choice::Run).expect(rt, "memory");
+    mem::forget(write);
 }
 
 /// An index that has version 5 of the documents 1 and 2, both deleted.
@@ -41,9 +43,9 @@ const THREE_VERSIONS: RelayConfig = RelayConfig { deal: 3, ..THREE };
 fn send_one(rt: &impl Abort, alloc: Global, world: &mut World) {
     let action = Action::index(alloc, "{}").expect(rt, "an action");
     let put = Event::Put(0, key_of(rt, alloc, "1"), action);
-    assert!(rt; accepts(world, &put));
-    assert!(rt; accepts(world, &Event::Take(0)));
-    assert!(rt; accepts(world, &Event::Send(0)));
+    assert!(rt; accepts(world, put));
+    assert!(rt; accepts(world, Event::Take(0)));
+    assert!(rt; accepts(world, Event::Send(0)));
 }
 
 /// The status of the first run of the first request, or 0.
@@ -73,7 +75,10 @@ fn only_its_own(rt: HostRuntime) {
 
 /// How many operations the reply to request 2 settled as already applied, and how many it reported.
 fn settled_by(alloc: Global, world: &mut World) -> (u32, u32) {
-    match world.step(&Event::Reply(2, List::of(Vec::new(alloc)))) {
+    let event = Event::Reply(2, List::of(Vec::new(alloc)));
+    let answer = world.step(&event);
+    mem::forget(event);
+    match answer {
         Ok(StepAnswer::Settled(counts)) => (counts.already, counts.reported),
         _ => (0, 0),
     }
@@ -88,11 +93,11 @@ fn becomes(rt: &impl Abort, alloc: Global, states: bool) -> (u32, u32) {
     }
     let world = world_over(rt, alloc, THREE_VERSIONS, index);
     send_one(rt, alloc, world);
-    assert!(rt; accepts(world, &Event::Lost(1)));
-    assert!(rt; accepts(world, &Event::Tick(0)));
-    assert!(rt; accepts(world, &Event::Take(0)));
-    assert!(rt; accepts(world, &Event::Send(0)));
-    assert!(rt; accepts(world, &Event::Run(2, 1, Choice::Run)));
+    assert!(rt; accepts(world, Event::Lost(1)));
+    assert!(rt; accepts(world, Event::Tick(0)));
+    assert!(rt; accepts(world, Event::Take(0)));
+    assert!(rt; accepts(world, Event::Send(0)));
+    assert!(rt; accepts(world, Event::Run(2, 1, Choice::Run)));
     settled_by(alloc, world)
 }
 
@@ -110,20 +115,7 @@ fn lost_if_not_stated(rt: HostRuntime) {
 
 /// A lane takes the first operation of producer 0: a delete of document 1.
 fn takes_one(rt: &impl Abort, alloc: Global, lane: &mut Lane) {
-    let op = Op {
-        epoch: 0,
-        producer: 0,
-        number: 1,
-        key: key_of(rt, alloc, "1"),
-        action: Action::delete(),
-    };
-    let mail = Mail {
-        sender: 0,
-        number: 1,
-        body: Body::Put(op),
-    };
-    assert!(rt; lane.senders() > 0);
-    assert!(rt; lane.take(mail).is_ok());
+    assert!(rt; put(rt, alloc, lane, 1, "1", "").is_none());
 }
 
 /// The next request, which there is.
@@ -145,6 +137,20 @@ fn run_first(
     done.outcome(alloc).expect(rt, "memory")
 }
 
+/// Answers a request with a single entry.
+fn settle_with(
+    rt: &impl Abort,
+    alloc: Global,
+    lane: &mut Lane,
+    number: u64,
+    outcome: Outcome,
+) -> Settled {
+    let mut outcomes = Vec::new(alloc);
+    outcomes.push(outcome).expect(rt, "memory");
+    lane.reply(number, outcomes)
+        .expect(rt, "a request in flight")
+}
+
 // Why the versions of an index must be below the first one assigned: here 5 is stored and 1 is
 // assigned. The request is lost before it ran, sent once more, run, and answered with the result of
 // that run. This conflicts with the foreign version, which the lane takes for its own: the operation
@@ -153,21 +159,16 @@ fn run_first(
 fn lost_without_the_condition(rt: HostRuntime) {
     let alloc = rt.alloc();
     let mut index = index_at_five(&rt, alloc);
-    let mut lane = Lane::new(alloc, THREE).expect(&rt, "memory");
-    takes_one(&rt, alloc, &mut lane);
-    let first = next_of(&rt, &mut lane);
+    let lane = lane_of(&rt, alloc, THREE);
+    takes_one(&rt, alloc, lane);
+    let first = next_of(&rt, lane);
     assert!(rt; lane.lost(first, Loss::Closed).is_ok());
     lane.tick();
-    let second = next_of(&rt, &mut lane);
-    let mut outcomes = Vec::new(alloc);
-    outcomes
-        .push(run_first(&rt, alloc, &lane, second, &mut index))
-        .expect(&rt, "memory");
-    let counts = lane
-        .reply(second, outcomes)
-        .expect(&rt, "a request in flight");
+    let second = next_of(&rt, lane);
+    let outcome = run_first(&rt, alloc, lane, second, &mut index);
+    let counts = settle_with(&rt, alloc, lane, second, outcome);
     assert!(rt; counts.already == 1 && counts.reported == 0);
     assert!(rt; lane.held() == 0 && lane.reports().is_empty());
     assert!(rt; index.applied(&key_of(&rt, alloc, "1")).len() == 1);
-    mem::forget(lane);
+    mem::forget(index);
 }

@@ -33,7 +33,7 @@ fn puts_all(rt: &impl Abort, alloc: Global, world: &mut World) {
     for producer in 0..PRODUCERS {
         for id in IDS {
             let key = DocKey::new(alloc, "books", id).expect(rt, "a key");
-            assert!(rt; accepts(world, &Event::Put(producer, key, Action::delete())));
+            assert!(rt; accepts(world, Event::Put(producer, key, Action::delete())));
         }
     }
 }
@@ -42,7 +42,7 @@ fn puts_all(rt: &impl Abort, alloc: Global, world: &mut World) {
 fn closes_all(rt: &impl Abort, world: &mut World) {
     for lane in 0..LANES {
         for sender in 0..17u32 {
-            assert!(rt; accepts(world, &Event::Close(sender, lane)));
+            assert!(rt; accepts(world, Event::Close(sender, lane)));
         }
     }
 }
@@ -51,7 +51,7 @@ fn closes_all(rt: &impl Abort, world: &mut World) {
 fn takes_all(world: &mut World) {
     for lane in 0..LANES {
         for _ in 0..100u32 {
-            let _ = accepts(world, &Event::Take(lane));
+            let _ = accepts(world, Event::Take(lane));
         }
     }
 }
@@ -59,14 +59,14 @@ fn takes_all(world: &mut World) {
 /// Runs the items of a request; the reply of the first request is lost, and each other one arrives.
 fn answer(alloc: Global, world: &mut World, number: u64) -> bool {
     for item in 1..3u64 {
-        let _ = accepts(world, &Event::Run(number, item, Choice::Run));
+        let _ = accepts(world, Event::Run(number, item, Choice::Run));
     }
     let event = if number == 1 {
         Event::Lost(number)
     } else {
         Event::Reply(number, List::of(Vec::new(alloc)))
     };
-    accepts(world, &event)
+    accepts(world, event)
 }
 
 /// Sends what each lane may send, until none has anything to send, and returns the number of
@@ -75,13 +75,18 @@ fn works(alloc: Global, world: &mut World, before: u64) -> u64 {
     let mut number = before;
     for _ in 0..200u32 {
         for lane in 0..LANES {
-            if accepts(world, &Event::Send(lane)) {
+            if accepts(world, Event::Send(lane)) {
                 number = number.saturating_add(1);
                 let _ = answer(alloc, world, number);
             }
         }
     }
     number
+}
+
+fn count_applied(rt: &impl Abort, alloc: Global, world: &World, id: &str) -> usize {
+    let key = DocKey::new(alloc, "books", id).expect(rt, "a key");
+    world.names(&key).len()
 }
 
 /// How many operations were accepted from all producers, and how many writes were applied to all
@@ -93,8 +98,7 @@ fn counted(rt: &impl Abort, alloc: Global, world: &World) -> (usize, usize) {
     }
     let mut applied: usize = 0;
     for id in IDS {
-        let key = DocKey::new(alloc, "books", id).expect(rt, "a key");
-        applied = applied.saturating_add(world.names(&key).len());
+        applied = applied.saturating_add(count_applied(rt, alloc, world, id));
     }
     (accepted, applied)
 }
@@ -102,7 +106,7 @@ fn counted(rt: &impl Abort, alloc: Global, world: &World) -> (usize, usize) {
 /// The control ticks at each lane.
 fn ticks_all(rt: &impl Abort, world: &mut World) {
     for lane in 0..LANES {
-        assert!(rt; accepts(world, &Event::Tick(lane)));
+        assert!(rt; accepts(world, Event::Tick(lane)));
     }
 }
 

@@ -10,6 +10,7 @@ use relay_fixtures::keys::key_of;
 use relay_index::Index;
 use relay_world::{Event, StepAnswer, World};
 use std::alloc::{AllocError, Global};
+use std::mem;
 use std::process::Abort;
 
 fn world_of(alloc: Global, config: RelayConfig) -> Option<World> {
@@ -84,6 +85,13 @@ fn seen(world: &World, key: &DocKey) -> Seen {
     (counts, count_sent(world), world.finished())
 }
 
+fn says_so(world: &mut World, event: &Event, says: Says) -> bool {
+    match world.step(event) {
+        Ok(answer) => is_said(answer, says),
+        Err(AllocError) => false,
+    }
+}
+
 // Whether an event gets the expected answer, by a second call if an allocation of the first failed
 // and it changed nothing. One that the world refuses gets its answer by the first call.
 fn steps(world: &mut World, event: &Event, says: Says, key: &DocKey) -> bool {
@@ -93,23 +101,35 @@ fn steps(world: &mut World, event: &Event, says: Says, key: &DocKey) -> bool {
         Err(AllocError) => {
             !matches!(says, Says::No(_))
                 && seen(world, key) == before
-                && world.step(event).is_ok_and(|answer| is_said(answer, says))
+                && says_so(world, event, says)
         }
     }
 }
 
-fn steps_through(
-    alloc: Global,
-    world: &mut World,
-    rows: &[(Row<'_>, Says)],
-    key: &DocKey,
-) -> Option<bool> {
-    let mut good = true;
-    for (row, says) in rows {
-        let event = event_of(alloc, row).or_else(|_| event_of(alloc, row)).ok()?;
-        good = steps(world, &event, *says, key) && good;
+fn event_again(alloc: Global, row: &Row<'_>) -> Option<Event> {
+    match event_of(alloc, row) {
+        Ok(event) => Some(event),
+        Err(_) => event_of(alloc, row).ok(),
     }
-    Some(good)
+}
+
+// The same for the event of a row.
+fn steps_row(alloc: Global, world: &mut World, row: &Row<'_>, says: Says, key: &DocKey) -> bool {
+    let Some(event) = event_again(alloc, row) else {
+        return false;
+    };
+    let good = steps(world, &event, says, key);
+    mem::forget(event);
+    good
+}
+
+fn steps_through(alloc: Global, world: &mut World, rows: &[(Row<'_>, Says)], key: &DocKey) -> bool {
+    for (row, says) in rows {
+        if !steps_row(alloc, world, row, *says, key) {
+            return false;
+        }
+    }
+    true
 }
 
 fn keys_of(world: &World) -> Option<Vec<DocKey>> {
@@ -123,9 +143,10 @@ fn keys_of(world: &World) -> Option<Vec<DocKey>> {
 fn steps_rows(rt: &impl Abort, alloc: Global, rows: &[(Row<'_>, Says)], documents: usize) {
     let mut world = world_of(alloc, THREE).expect(rt, "a world");
     let key = key_of(alloc, "b", "1").expect(rt, "a key");
-    assert!(rt; steps_through(alloc, &mut world, rows, &key) == Some(true));
+    assert!(rt; steps_through(alloc, &mut world, rows, &key));
     let keys = keys_of(&world).expect(rt, "keys");
     assert!(rt; keys.len() == documents && world.applied(&key).len() == 1);
+    mem::forget((world, key, keys));
 }
 
 #[test]
@@ -146,6 +167,13 @@ fn runs(world: &mut World, events: &[Event]) -> Option<bool> {
     }
 }
 
+fn events_again(alloc: Global, rows: &[(Row<'_>, Says)]) -> Option<Vec<Event>> {
+    match events_of(alloc, rows) {
+        Ok(events) => Some(events),
+        Err(_) => events_of(alloc, rows).ok(),
+    }
+}
+
 // The events of rows leave a world with this many accepted operations, and with this outcome.
 fn runs_rows(
     rt: &impl Abort,
@@ -156,14 +184,13 @@ fn runs_rows(
     ends: Ends,
     finished: bool,
 ) {
-    let events = events_of(alloc, rows)
-        .or_else(|_| events_of(alloc, rows))
-        .expect(rt, "events");
+    let events = events_again(alloc, rows).expect(rt, "events");
     let mut world = world_of(alloc, config).expect(rt, "a world");
     assert!(rt; runs(&mut world, events.as_slice()) == Some(true));
     let (applied, reports) = ends;
     assert!(rt; ends_with(alloc, &world, applied, reports, finished) == Ok(true));
     assert!(rt; world.accepted(0).len() == accepted);
+    mem::forget((events, world));
 }
 
 #[test]
@@ -175,8 +202,13 @@ fn refused_schedules(rt: HostRuntime) {
 
 /// A producer puts a delete of a document.
 fn puts(alloc: Global, world: &mut World, id: &str) -> Result<(), AllocError> {
-    let key = DocKey::new(alloc, "b", id).map_err(|_| AllocError)?;
-    world.step(&Event::Put(0, key, Action::delete()))?;
+    let Ok(key) = DocKey::new(alloc, "b", id) else {
+        return Err(AllocError);
+    };
+    let event = Event::Put(0, key, Action::delete());
+    let answer = world.step(&event);
+    mem::forget(event);
+    answer?;
     Ok(())
 }
 
@@ -206,7 +238,7 @@ fn restarts_or_stays(world: &mut World) -> bool {
                 && world.accepted(0).is_empty()
                 && world.accepted_in(0, 0).len() == 2
         }
-        Err(_) => is_in_flight(world) && accepts(world, &Event::Take(0)),
+        Err(_) => is_in_flight(world) && accepts(world, Event::Take(0)),
     }
 }
 
@@ -218,5 +250,6 @@ fn restart_out_of_memory(rt: HostRuntime) {
         if sends_one_of_two(rt.alloc(), &mut world).is_ok() {
             assert!(rt; restarts_or_stays(&mut world));
         }
+        mem::forget(world);
     }
 }

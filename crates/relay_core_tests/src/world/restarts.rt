@@ -1,6 +1,6 @@
 //! Epochs: restarts, what is left of earlier incarnations, and the last version of an epoch.
 use crate::world::script::{Given, Name, Row, Says, THREE, is_given, is_named, played, world_of};
-use relay_action::{DocKey, Op};
+use relay_action::{DocKey, Op, OpName, Write};
 use relay_core::RelayConfig;
 use relay_world::{Refusal, World};
 use std::alloc::Global;
@@ -19,20 +19,22 @@ struct End<'a> {
     finished: bool,
 }
 
+fn are_writes(writes: &[Write], names: &[OpName], rows: &[Applied]) -> bool {
+    if writes.len() != rows.len() || names.len() != rows.len() {
+        return false;
+    }
+    for i in 0..rows.len() {
+        if writes[i].version != rows[i].0 || !is_named(names[i], rows[i].1) {
+            return false;
+        }
+    }
+    true
+}
+
 /// Whether a document has these writes, of these operations.
 fn has_writes(rt: &impl Abort, alloc: Global, world: &World, id: &str, rows: &[Applied]) -> bool {
     let key = DocKey::new(alloc, "b", id).expect(rt, "a key");
-    let writes = world.applied(&key);
-    let names = world.names(&key);
-    let versions = writes
-        .iter()
-        .zip(rows)
-        .all(|(write, row)| write.version == row.0);
-    let named = names
-        .iter()
-        .zip(rows)
-        .all(|(name, row)| is_named(*name, row.1));
-    versions && named && writes.len() == rows.len() && names.len() == rows.len()
+    are_writes(world.applied(&key), world.names(&key), rows)
 }
 
 /// Whether these documents have these writes, and no other document has any.
@@ -58,9 +60,12 @@ fn has_accepted(world: &World, counts: &[usize]) -> bool {
 /// Whether lane 0 has reported these operations, for these causes.
 fn has_reported(world: &World, rows: &[(Name, Given)]) -> bool {
     let reports = world.reports(0);
-    let same = reports.iter().zip(rows).all(|(report, row)| is_named(report.name, row.0)
-        && is_given(report, row.1));
-    same && reports.len() == rows.len()
+    for (report, row) in reports.iter().zip(rows) {
+        if !is_named(report.name, row.0) || !is_given(report, row.1) {
+            return false;
+        }
+    }
+    reports.len() == rows.len()
 }
 
 /// Whether a world answers rows as they say, and then ends like this.
@@ -248,11 +253,12 @@ const ALL_OF_SEVEN: &[(&str, &[Applied])] = &[
 
 /// Whether these operations have these names.
 fn are_named(ops: &[Op], names: &[Name]) -> bool {
-    let same = ops
-        .iter()
-        .zip(names)
-        .all(|(op, name)| is_named(op.name(), *name));
-    same && ops.len() == names.len()
+    for (op, name) in ops.iter().zip(names) {
+        if !is_named(op.name(), *name) {
+            return false;
+        }
+    }
+    ops.len() == names.len()
 }
 
 /// Whether these were accepted in each epoch from each producer, and nothing in another epoch or
@@ -267,10 +273,12 @@ fn keeps_what_was_accepted(world: &World) -> bool {
         (7, 2, &[]),
         (1, 0, &[]),
     ];
-    rows.iter().all(|(epoch, producer, names)| are_named(
-        world.accepted_in(*epoch, *producer),
-        names,
-    ))
+    for (epoch, producer, names) in rows {
+        if !are_named(world.accepted_in(epoch, producer), names) {
+            return false;
+        }
+    }
+    true
 }
 
 // Two lanes are restarted and finish in the new epoch, and what was accepted in each is still known.
@@ -394,23 +402,15 @@ const HALVED: &[(Row<'static>, Says)] = &[
 ];
 
 /// Whether an item of a request is this document with this version.
-fn has_item(
-    rt: &impl Abort,
-    alloc: Global,
-    world: &World,
-    (request, item): (u64, u64),
-    id: &str,
-    version: u64,
-) -> bool {
-    let key = DocKey::new(alloc, "b", id).expect(rt, "a key");
+fn has_item(world: &World, (request, item): (u64, u64), id: &str, version: u64) -> bool {
     match world.sent(request, item) {
-        Some((sent, found)) => *sent == key && found == version,
+        Some((key, found)) => key.index() == "b" && key.id() == id && found == version,
         None => false,
     }
 }
 
 /// Whether these are exactly the documents of the requests, each with the version of its number.
-fn has_requests(rt: &impl Abort, alloc: Global, world: &World) -> bool {
+fn has_requests(world: &World) -> bool {
     let items: [(u64, u64, &str, u64); 6] = [
         (1, 1, "1", 1),
         (1, 2, "2", 2),
@@ -421,12 +421,13 @@ fn has_requests(rt: &impl Abort, alloc: Global, world: &World) -> bool {
     ];
     let mut good = true;
     for (request, item, id, version) in items {
-        good = has_item(rt, alloc, world, (request, item), id, version) && good;
+        good = has_item(world, (request, item), id, version) && good;
     }
     let ends: [(u64, u64); 5] = [(1, 4), (2, 2), (3, 2), (4, 2), (5, 1)];
-    good && ends
-        .iter()
-        .all(|(request, item)| world.sent(*request, *item).is_none())
+    for (request, item) in ends {
+        good = world.sent(request, item).is_none() && good;
+    }
+    good
 }
 
 #[test]
@@ -440,5 +441,5 @@ fn too_large_as_a_whole(rt: HostRuntime) {
         finished: false,
     };
     assert!(rt; goes_so(&rt, alloc, world, HALVED, &end));
-    assert!(rt; has_requests(&rt, alloc, world));
+    assert!(rt; has_requests(world));
 }

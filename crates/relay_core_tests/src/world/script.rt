@@ -6,6 +6,7 @@ use relay_fixtures::desk::action_of;
 use relay_index::{Choice, Index};
 use relay_world::{Event, Refusal, StepAnswer, World};
 use std::alloc::Global;
+use std::mem;
 use std::process::Abort;
 
 /// One lane and one producer, queues of ten, batches of ten documents and 4,096 bytes that are sent
@@ -64,10 +65,10 @@ pub fn event_of(alloc: Global, row: &Row<'_>) -> Result<Event, ActionFault> {
         Row::Send(lane) => Event::Send(lane),
         Row::Run(request, item) => Event::Run(request, item, Choice::Run),
         Row::Refuse(request, item, status) => Event::Run(request, item, Choice::Refuse(status)),
-        Row::Reply(request, picks) => Event::Reply(
-            request,
-            List::of(Vec::from_slice(alloc, picks).map_err(|_| ActionFault::Memory)?),
-        ),
+        Row::Reply(request, picks) => match Vec::from_slice(alloc, picks) {
+            Ok(picks) => Event::Reply(request, List::of(picks)),
+            Err(_) => return Err(ActionFault::Memory),
+        },
         Row::Whole(request, status) => Event::Whole(request, status),
         Row::Lost(request) => Event::Lost(request),
         Row::Restart(epoch) => Event::Restart(epoch),
@@ -124,12 +125,18 @@ pub fn world_of<'a>(rt: &impl Abort, alloc: Global, config: RelayConfig) -> &'a 
     world_over(rt, alloc, config, Index::new(alloc))
 }
 
+// Plays a row, and returns whether it is answered as it says.
+fn plays(rt: &impl Abort, alloc: Global, world: &mut World, row: &Row<'_>, says: Says) -> bool {
+    let event = event_of(alloc, row).expect(rt, "an event");
+    let answer = world.step(&event).expect(rt, "memory");
+    mem::forget(event);
+    is_said(answer, says)
+}
+
 /// Plays rows, and returns whether each is answered as it says.
 pub fn played(rt: &impl Abort, alloc: Global, world: &mut World, rows: &[(Row<'_>, Says)]) -> bool {
     for (row, says) in rows {
-        let event = event_of(alloc, row).expect(rt, "an event");
-        let answer = world.step(&event).expect(rt, "memory");
-        if !is_said(answer, *says) {
+        if !plays(rt, alloc, world, row, *says) {
             return false;
         }
     }
@@ -137,8 +144,10 @@ pub fn played(rt: &impl Abort, alloc: Global, world: &mut World, rows: &[(Row<'_
 }
 
 /// Whether an event was accepted.
-pub fn accepts(world: &mut World, event: &Event) -> bool {
-    match world.step(event) {
+pub fn accepts(world: &mut World, event: Event) -> bool {
+    let answer = world.step(&event);
+    mem::forget(event);
+    match answer {
         Ok(StepAnswer::Refused(_)) => false,
         Ok(_) => true,
         Err(_) => false,
@@ -170,6 +179,15 @@ pub fn is_given(report: &Report, given: Given) -> bool {
     }
 }
 
+fn have_numbers(names: &[OpName], numbers: &[u64]) -> bool {
+    for (name, number) in names.iter().zip(numbers) {
+        if name.number != *number {
+            return false;
+        }
+    }
+    names.len() == numbers.len()
+}
+
 /// Whether a document has writes of these operations, by their numbers.
 fn has_applied(
     alloc: Global,
@@ -178,10 +196,8 @@ fn has_applied(
     numbers: &[u64],
 ) -> Result<bool, ActionFault> {
     let key = DocKey::new(alloc, "b", id)?;
-    let names = world.names(&key);
-    let same = names.len() == numbers.len()
-        && names.iter().zip(numbers).all(|(a, b)| a.number == *b);
-    Ok(same && world.applied(&key).len() == numbers.len())
+    let applied = world.applied(&key).len();
+    Ok(have_numbers(world.names(&key), numbers) && applied == numbers.len())
 }
 
 /// Whether a world has these documents with these operations applied, these reports of lane 0, and
@@ -234,14 +250,31 @@ pub fn lasts_with(
         && ends_with(alloc, world, applied, reports, false).expect(rt, "keys")
 }
 
+fn add(alloc: Global, events: &mut Vec<Event>, row: &Row<'_>) -> Result<(), ActionFault> {
+    match events.push(event_of(alloc, row)?) {
+        Ok(()) => Ok(()),
+        Err(_) => Err(ActionFault::Memory),
+    }
+}
+
+fn add_all(
+    alloc: Global,
+    events: &mut Vec<Event>,
+    rows: &[(Row<'_>, Says)],
+) -> Result<(), ActionFault> {
+    for (row, _) in rows {
+        add(alloc, events, row)?;
+    }
+    Ok(())
+}
+
 /// The events of rows.
 pub fn events_of(alloc: Global, rows: &[(Row<'_>, Says)]) -> Result<Vec<Event>, ActionFault> {
-    let mut events = Vec::with_capacity(alloc, rows.len()).map_err(|_| ActionFault::Memory)?;
-    for (row, _) in rows {
-        let event = event_of(alloc, row)?;
-        events.push(event).map_err(|_| ActionFault::Memory)?;
+    let mut events = Vec::new(alloc);
+    match add_all(alloc, &mut events, rows) {
+        Ok(()) => Ok(events),
+        Err(fault) => Err(fault),
     }
-    Ok(events)
 }
 
 /// How many events of these rows a fresh world with a config accepts in one run, and how many it

@@ -5,6 +5,7 @@ use crate::wires::streams::{BUSY, wired};
 use relay_fixtures::asking::{Told, asks};
 use relay_lane::Loss;
 use std::alloc::Global;
+use std::mem;
 use std::process::Abort;
 
 // Two replies after which the connection may be used again, and one after which it may not.
@@ -24,7 +25,9 @@ fn twice(
 ) -> (Told, Told) {
     let mut wire = wired(alloc, inputs, room, fail_at, 1).expect(rt, "memory");
     let first = asks(alloc, &mut wire, 1, "2", 2);
-    (first, asks(alloc, &mut wire, 2, "2", 2))
+    let second = asks(alloc, &mut wire, 2, "2", 2);
+    mem::forget(wire);
+    (first, second)
 }
 
 const NOT_SENT: Told = Told::Fault(Loss::Unreachable);

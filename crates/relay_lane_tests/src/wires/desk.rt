@@ -30,15 +30,26 @@ fn puts_number(alloc: Global, desk: &mut Desk, number: u64) -> bool
     }
 }
 
+// Puts deletes of this many documents, with the ids `1`, `2` and so on.
+fn puts_all(alloc: Global, desk: &mut Desk, count: u64) -> bool
+    ensures { out_of desk.new.lane.state ≡ out_of desk.old.lane.state }
+{
+    for number in 1..=count {
+        if !puts_number(alloc, desk, number) {
+            return false;
+        }
+    }
+    true
+}
+
 /// A closed lane that took deletes of this many documents, with the ids `1`, `2` and so on.
 pub fn numbered(alloc: Global, count: u64) -> Option<Desk>
     ensures { IfSome result (λ d. out_of d.lane.state ≡ []) }
 {
     let mut desk = desk_of(alloc, CONFIG)?;
-    for number in 1..=count {
-        if !puts_number(alloc, &mut desk, number) {
-            return None;
-        }
+    if puts_all(alloc, &mut desk, count) && closes(&mut desk) {
+        Some(desk)
+    } else {
+        None
     }
-    if closes(&mut desk) { Some(desk) } else { None }
 }

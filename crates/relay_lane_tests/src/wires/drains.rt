@@ -12,6 +12,7 @@ use relay_fixtures::notes::NO_PAUSES;
 use relay_lane::{Wire, drain};
 use relay_loop::LoopWire;
 use std::alloc::Global;
+use std::mem;
 use std::process::Abort;
 
 /// The outcome of a drain.
@@ -61,7 +62,9 @@ pub fn came_to(
 fn in_memory(rt: &impl Abort, alloc: Global, count: u64, lost: u64) -> (Came, usize) {
     let mut desk = numbered(alloc, count).expect(rt, "a lane");
     let mut wire = looped(rt, alloc, lost);
-    came_to(rt, alloc, &mut desk, &mut wire)
+    let came = came_to(rt, alloc, &mut desk, &mut wire);
+    mem::forget(wire);
+    came
 }
 
 // Three deletes of three documents, whose first request's reply is lost: all three were applied by
@@ -99,6 +102,7 @@ fn three_deletes(rt: HostRuntime) {
     let index = wire.peer().index();
     assert!(rt; index.highest() == Some(3));
     assert!(rt; index.keys(rt.alloc()).expect(&rt, "memory").len() == 3);
+    mem::forget(wire);
 }
 
 #[test]
@@ -114,4 +118,5 @@ fn a_lost_reply_over_http(rt: HostRuntime) {
     let mut wire = wired(rt.alloc(), &[b"", CONFLICTS], 1000, 0, 1).expect(&rt, "memory");
     let mut desk = numbered(rt.alloc(), 3).expect(&rt, "a lane");
     assert!(rt; drained(&rt, &mut desk, &mut wire) == LOST_ONCE);
+    mem::forget(wire);
 }

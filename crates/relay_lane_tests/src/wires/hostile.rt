@@ -6,6 +6,7 @@ use crate::wires::streams::wired_failing;
 use relay_fixtures::desk::Desk;
 use relay_results::Cause;
 use std::alloc::Global;
+use std::mem;
 use std::process::Abort;
 
 // A reply that settles a delete of the document `1`, in chunks after an interim head, and in the
@@ -71,6 +72,7 @@ fn ends(rt: &impl Abort, alloc: Global, inputs: &[&[u8]], piece: usize, fails_at
     let mut wire = wired_failing(rt, alloc, inputs, piece, fails_at);
     let mut desk = numbered(alloc, 1).expect(rt, "a lane");
     let came = drained(rt, &mut desk, &mut wire);
+    mem::forget(wire);
     (came, sends(&desk))
 }
 

@@ -1,11 +1,12 @@
 //! Free connections on which something unrequested arrived.
 ghost use Rattle.std.specs.Prelude.{◌≡◌, []};
 
-use crate::wires::streams::BUSY;
+use crate::wires::streams::{BUSY, is_answered};
 use crate::wires::turns::{Turns, turned};
 use relay_fixtures::asking::{Told, asks};
 use relay_lane::{Loss, Wire};
 use std::alloc::Global;
+use std::mem;
 use std::process::Abort;
 
 // 40 bytes, as `BUSY`: a reply read in pieces of 8 or 20 bytes ends with a read.
@@ -23,7 +24,9 @@ const BUSY_AND_ONE: &[u8] = b"HTTP/1.1 503 Busy\r\nContent-Length: 0\r\n\r\n\n";
 fn twice(rt: &impl Abort, alloc: Global, streams: &[Turns<'_>], piece: usize) -> (Told, Told) {
     let mut wire = turned(rt, alloc, streams, piece, 1);
     let first = asks(alloc, &mut wire, 1, "2", 2);
-    (first, asks(alloc, &mut wire, 2, "2", 2))
+    let second = asks(alloc, &mut wire, 2, "2", 2);
+    mem::forget(wire);
+    (first, second)
 }
 
 const BUSY_THEN_GATE: (Told, Told) = (Told::Whole(503), Told::Whole(502));
@@ -65,15 +68,17 @@ fn answers_both<W: Wire>(rt: &impl Abort, wire: &mut W)
 {
     wire.send(1, &[]).expect(rt, "the first is sent");
     wire.send(2, &[]).expect(rt, "the second is sent");
-    assert!(rt; wire.receive(1).is_ok());
-    assert!(rt; wire.receive(2).is_ok());
+    assert!(rt; is_answered(wire.receive(1)));
+    assert!(rt; is_answered(wire.receive(2)));
 }
 
 // The result of a delete over streams with these turns, once two of them are free.
 fn after_two(rt: &impl Abort, alloc: Global, streams: &[Turns<'_>], piece: usize) -> Told {
     let mut wire = turned(rt, alloc, streams, piece, 2);
     answers_both(rt, &mut wire);
-    asks(alloc, &mut wire, 3, "2", 2)
+    let told = asks(alloc, &mut wire, 3, "2", 2);
+    mem::forget(wire);
+    told
 }
 
 const TWO_FREE: &[(&[Turns<'static>], Told)] = &[

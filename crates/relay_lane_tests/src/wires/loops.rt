@@ -7,6 +7,7 @@ use relay_index::{Index, Script};
 use relay_lane::Loss;
 use relay_loop::{LoopEnd, LoopWire, wire_to};
 use std::alloc::Global;
+use std::mem;
 use std::process::Abort;
 
 /// A wire to an empty index that loses the reply to one number.
@@ -39,4 +40,5 @@ fn refused_lost_and_conflict(rt: HostRuntime) {
     assert!(rt; asks(alloc, &mut wire, 3, "2", 2) == Told::Entries(1, 409));
     let key = key_of(alloc, "books", "2").expect(&rt, "memory");
     assert!(rt; wire.peer().index().applied(&key).len() == 1);
+    mem::forget((wire, key));
 }

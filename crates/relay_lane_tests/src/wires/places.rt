@@ -3,11 +3,12 @@ ghost use Rattle.std.specs.Prelude.{◌≡◌, ◌∷◌, [], MatchResult};
 ghost use Rattle.relay_results.specs.Words.{Mem};
 ghost use Rattle.relay_wires.specs.Numbers.{numbers};
 
-use crate::wires::streams::{BUSY, Wired, wired};
+use crate::wires::streams::{BUSY, Wired, is_answered, wired};
 use relay_index::{Index, Script};
 use relay_lane::{Loss, Wire};
 use relay_loop::{LoopEnd, wire_to};
 use std::alloc::Global;
+use std::mem;
 use std::process::Abort;
 
 // Sends a request without writes.
@@ -23,10 +24,12 @@ fn sends(wire: &mut Wired, number: u64) -> Result<(), Loss>
 // The results of two requests that are sent before a reply is received, with this maximum.
 fn two_out(rt: &impl Abort, alloc: Global, most: u32) -> [Result<(), Loss>; 2] {
     let mut wire = wired(alloc, &[BUSY, BUSY], 1000, 0, most).expect(rt, "memory");
-    match sends(&mut wire, 1) {
+    let sent = match sends(&mut wire, 1) {
         Ok(()) => [Ok(()), sends(&mut wire, 2)],
         Err(fault) => [Err(fault), Err(fault)],
-    }
+    };
+    mem::forget(wire);
+    sent
 }
 
 // Two outstanding requests are both answered, the later one first.
@@ -35,8 +38,8 @@ fn answers_both<W: Wire>(rt: &impl Abort, wire: &mut W)
 {
     wire.send(1, &[]).expect(rt, "the first is sent");
     wire.send(2, &[]).expect(rt, "the second is sent");
-    assert!(rt; wire.receive(2).is_ok());
-    assert!(rt; wire.receive(1).is_ok());
+    assert!(rt; is_answered(wire.receive(2)));
+    assert!(rt; is_answered(wire.receive(1)));
 }
 
 // Over streams, with a maximum of two, and in memory.
@@ -48,6 +51,7 @@ fn the_later_one_first(rt: HostRuntime) {
     let end = LoopEnd::new(alloc, Index::new(alloc), Script::new(alloc));
     let mut looped = wire_to(alloc, end, 2).expect(&rt, "memory");
     answers_both(&rt, &mut looped);
+    mem::forget((wire, looped));
 }
 
 #[test]

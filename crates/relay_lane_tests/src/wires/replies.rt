@@ -7,13 +7,16 @@ use relay_http::HttpReply;
 use relay_lane::{Loss, WireReply};
 use relay_wires::told::tell;
 use std::alloc::Global;
+use std::mem;
 use std::process::Abort;
 
 // The result of a delete if these bytes are the reply.
 fn told_by(rt: &impl Abort, alloc: Global, bytes: &[u8]) -> Told {
     let inputs = [bytes];
     let mut wire = wired(alloc, &inputs, 1000, 0, 1).expect(rt, "memory");
-    asks(alloc, &mut wire, 1, "2", 2)
+    let told = asks(alloc, &mut wire, 1, "2", 2);
+    mem::forget(wire);
+    told
 }
 
 const REPLIES: &[(&[u8], Told)] = &[

@@ -11,6 +11,7 @@ use relay_fixtures::watched::{Watch, Watched};
 use relay_lane::{RelayConfig, collect, drain, pump};
 use relay_loop::LoopWire;
 use std::alloc::Global;
+use std::mem;
 use std::process::Abort;
 
 // What a wire did: a request's number when it was sent, and a negative number when it was received.
@@ -84,8 +85,10 @@ fn pumped(rt: &impl Abort, alloc: Global, in_flight: u32, ids: &[&str]) -> Noted
     let mut pace = NO_PAUSES;
     let sent = pump(&mut desk.lane, &mut wire, &mut pace).expect(rt, "memory");
     let collected = collect(&mut desk.lane, &mut wire, &mut pace);
+    let notes = wire.watch.notes;
+    mem::forget(wire);
     Noted {
-        notes: wire.watch.notes,
+        notes,
         first: sent,
         then: collected,
         pauses: 0,
@@ -100,8 +103,10 @@ fn drained(rt: &impl Abort, alloc: Global, in_flight: u32, ids: &[&str], lost: u
     assert!(rt; closes(&mut desk));
     assert!(rt; desk.lane.closed());
     drain(&mut desk.lane, &mut wire, &mut pace).expect(rt, "memory");
+    let notes = wire.watch.notes;
+    mem::forget(wire);
     Noted {
-        notes: wire.watch.notes,
+        notes,
         first: desk.lane.totals().requests,
         then: desk.lane.flying() as u64,
         pauses: pace.pauses,
@@ -155,9 +160,10 @@ const DRAINS: &[(u32, &[&str], u64, &[i64], u64, u64)] = &[
 fn sends_while_a_place_is_free(rt: HostRuntime) {
     for (in_flight, ids, notes, sent, collected) in PUMPS {
         let noted = pumped(&rt, rt.alloc(), *in_flight, *ids);
-        assert!(rt; are(noted.notes, *notes), "{notes:?}");
-        assert!(rt; noted.first == *sent, "{notes:?}");
-        assert!(rt; noted.then == *collected, "{notes:?}");
+        assert!(rt;
+            are(noted.notes, *notes) && noted.first == *sent && noted.then == *collected,
+            "{notes:?}"
+        );
     }
 }
 
@@ -165,9 +171,10 @@ fn sends_while_a_place_is_free(rt: HostRuntime) {
 fn answers_come_before_a_pause(rt: HostRuntime) {
     for (in_flight, ids, lost, notes, requests, pauses) in DRAINS {
         let noted = drained(&rt, rt.alloc(), *in_flight, *ids, *lost);
-        assert!(rt; are(noted.notes, *notes), "{notes:?}");
-        assert!(rt; noted.first == *requests, "{notes:?}");
-        assert!(rt; noted.then == 0, "{notes:?}");
-        assert!(rt; noted.pauses == *pauses, "{notes:?}");
+        let counts = (noted.first, noted.then, noted.pauses);
+        assert!(rt;
+            are(noted.notes, *notes) && counts == (*requests, 0, *pauses),
+            "{notes:?}"
+        );
     }
 }

@@ -3,6 +3,7 @@ ghost use Rattle.std.specs.Prelude.{◌≡◌, [], Ok, IfSome};
 
 use relay_action::MemStream;
 use relay_http::is_host;
+use relay_lane::{Loss, WireReply};
 use relay_wires::{Dial, DialFault, HttpWire, Unknown};
 use std::alloc::Global;
 use std::process::Abort;
@@ -64,6 +65,11 @@ impl Dial<MemStream> for Streams<'_> {
         self.failed = self.failed.saturating_add(1);
         Err(fault)
     }
+}
+
+/// Whether a request was answered.
+pub fn is_answered(answer: Result<WireReply, Loss>) -> bool {
+    answer.is_ok()
 }
 
 /// A wire over such streams.

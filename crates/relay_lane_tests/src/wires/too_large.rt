@@ -6,6 +6,7 @@ use crate::wires::drains::{Came, came_to};
 use relay_index::{Index, Script};
 use relay_loop::{LoopEnd, LoopWire, wire_to};
 use std::alloc::Global;
+use std::mem;
 use std::process::Abort;
 
 // A wire to an empty index that accepts bodies up to this size.
@@ -22,7 +23,9 @@ fn limited(rt: &impl Abort, alloc: Global, most: u64) -> LoopWire
 fn five(rt: &impl Abort, alloc: Global, most: u64) -> (Came, usize) {
     let mut desk = numbered(alloc, 5).expect(rt, "a lane");
     let mut wire = limited(rt, alloc, most);
-    came_to(rt, alloc, &mut desk, &mut wire)
+    let came = came_to(rt, alloc, &mut desk, &mut wire);
+    mem::forget(wire);
+    came
 }
 
 const fn came(requests: u64, applied: u64, reports: usize) -> Came {
