@@ -32,6 +32,13 @@ def open_bytes(serve):
     return int(re.search(rb"^relay_open_bytes (\d+)$", serve.whole("GET", "/_relay/metrics")[2], re.M)[1])
 
 
+def put_of(length):
+    """A write of a document that has so many bytes, with its head."""
+    head = b"PUT /books/_doc/3 HTTP/1.1\r\nhost: x\r\ncontent-length: %05d\r\n\r\n"
+    size = length - len(head % 0)
+    return head % size + b'{"pad":"%s"}' % (b"x" * (size - 10))
+
+
 def stop():
     """`POST /_relay/stop`, by a listener at a loopback address and by another one."""
     may_answer = threading.Event()
@@ -124,13 +131,15 @@ def logs():
     serve.ask("GET", "/_cluster/health")
     serve.ask("POST", "/_bulk", body_of([("1", "{}"), ("bad", "{}")]))
     serve.ask("PUT", "/" + "x" * 600 + "/_doc/1", b"{}")
+    serve.raw(b"no request at all\r\n\r\n")
+    serve.raw(b"PUT /books/_doc/1 HTTP/1.1\r\nhost: x\r\ncontent-length: 104857601\r\n\r\n")
     status, _, err = serve.stop()
     lines = stamped(err)
     rows = [it.split(" ") for it in lines if re.match(r"127\.0\.0\.1:\d+ ", it)]
     own = [(method, path, status, int(asked)) for _, method, path, status, asked, *_ in rows]
     bulk = len(body_of([("1", "{}"), ("bad", "{}")]))
-    check("each request", own == [("PUT", "/books/_doc/1", "201", 7), ("GET", "/_cluster/health", "200", 0), ("POST", "/_bulk", "200", bulk), ("PUT", "/" + "x" * 511, "400", 2)], lines)
-    check("the answers' sizes and times", all(int(row[5]) > 0 and 0 <= int(row[6]) < 60000 and len(row) == 7 for row in rows), rows)
+    check("each request", own == [("PUT", "/books/_doc/1", "201", 7), ("GET", "/_cluster/health", "200", 0), ("POST", "/_bulk", "200", bulk), ("PUT", "/" + "x" * 511, "400", 2)] + [("-", "-", status, 0) for status in ("400", "413")], lines)
+    check("the answers' sizes and times", all((int(row[5]) > 0) == (row[1] != "-") and 0 <= int(row[6]) < 60000 and len(row) == 7 for row in rows), rows)
     check("the index's refusal", any(it.endswith("refused: 400 mapper_parsing_exception") or "refused: 400" in it for it in lines), lines)
     server.close()
     done = subprocess.run([RELAY, "serve", "--listen", "127.0.0.1:0", "--to", "127.0.0.1:1", "--epoch", "1", "--log", "all"], stdin=subprocess.DEVNULL, capture_output=True, timeout=60)
@@ -236,6 +245,11 @@ def room():
     check("the second is read beyond the room", fill(second, size - 1) == size - 1)
     wait_until(lambda: open_bytes(serve) > 2 * size - 65536)
     check("a small write is always read", serve.ask("PUT", "/books/_doc/2", b"{}")[0] == 201)
+    with socket.create_connection(("127.0.0.1", serve.port), timeout=60) as peer:
+        whole = put_of(16384)
+        peer.sendall(whole)
+        said = peer.recv(65536)
+    check("one of 16,384 bytes is always read", len(whole) == 16384 and said.startswith(b"HTTP/1.1 201 "), said)
     third = begin(port, size)
     began = time.monotonic()
     fill(third, 65536)

@@ -1,1 +1,4 @@
 pub mod Chaining
+pub mod Rooms
+pub mod Taking
+pub mod Crossing

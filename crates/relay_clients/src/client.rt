@@ -3,12 +3,14 @@ ghost use Rattle.std.specs.Prelude.{◌≡◌, IfSome};
 ghost use Rattle.http_server.specs.Connection.{config_of, history};
 ghost use Rattle.http_server.specs.Exchange.{Calls};
 ghost use Rattle.http_server.specs.History.{new_history};
+ghost use Rattle.relay_clients.specs.Intake.{HasTaken};
+ghost use Rattle.relay_clients.specs.declared.client.Phase.TheVariants.{Serving};
 
 use crate::entrance::Origin;
 use crate::farewell::Farewell;
 use crate::places::Place;
 use crate::refusing::with_body;
-use crate::room::{FREE, PIECE, Share};
+use crate::room::{Intake, PIECE, Share};
 use crate::signals::Signals;
 use http_server::{Config, Connection, Reason, Service, State};
 use http1::Limits;
@@ -17,10 +19,11 @@ use relay_front::refusal::refusal_message;
 use std::alloc::{AllocError, Global};
 use std::hash::RandomState;
 use std::io;
-use std::io::ErrorKind;
+use std::io::{ErrorKind, Read};
 use std::marker::Model;
 use std::net::{OpenStream, Shutdown, SocketAddr, TcpStream};
 use std::os::fd::{AsRawFd, RawFd};
+use std::snapshot::Snapshot;
 use std::sync::Wait;
 use std::time::{Clock, Duration, Instant};
 
@@ -103,12 +106,15 @@ pub struct Client {
     // Whether it has made place since it was served last.
     has_waited: bool,
     origin: Origin,
-    // How many bytes of the request were read that has begun, and its share of the room.
-    taken: u64,
-    share: Share,
-    // Since when there is no room for what it would read.
+    // What was read of the request that has begun, and its share of the room.
+    intake: Intake,
+    // The connection as it was before these bytes, for clauses alone.
+    since: Snapshot<Connection>,
+    // Whether there is no room for what it has read, and since when, if the clock says so.
+    is_starved: bool,
     starved: Option<Instant>,
     _place: Place,
+    ghost counted: { phase ≡ Serving → HasTaken (history since.value) (history connection) intake.taken },
 }
 
 impl Model for Client {
@@ -178,22 +184,15 @@ impl Watch {
     }
 }
 
-// Sends what is pending, or else reads once. Returns how many bytes moved. `Err`: the socket failed,
-// or took nothing.
-fn exchange(connection: &mut Connection, stream: &mut TcpStream) -> io::Result<usize>
-    ensures { (history connection.new).calls ≡ (history connection.old).calls }
+// Sends what is pending. Returns how many bytes went. `Err`: the socket failed, or took nothing.
+fn send(connection: &mut Connection, stream: &mut TcpStream) -> io::Result<usize>
+    ensures calls { (history connection.new).calls ≡ (history connection.old).calls }
+    ensures received { (history connection.new).received ≡ (history connection.old).received }
 {
-    if connection.wants_write() {
-        match connection.write_to(stream) {
-            Ok(0) => Err(ErrorKind::WriteZero.into()),
-            Ok(count) => Ok(count),
-            Err(error) => Err(error),
-        }
-    } else {
-        match connection.read_from(stream) {
-            Ok(count) => Ok(count),
-            Err(error) => Err(error),
-        }
+    match connection.write_to(stream) {
+        Ok(0) => Err(ErrorKind::WriteZero.into()),
+        Ok(count) => Ok(count),
+        Err(error) => Err(error),
     }
 }
 
@@ -222,18 +221,21 @@ impl Client {
         {
             return None;
         }
+        let connection = Connection::new(alloc, keys, CONFIG);
+        let since = Snapshot::of(&connection);
         Some(Client {
             alloc,
             stream,
-            connection: Connection::new(alloc, keys, CONFIG),
+            connection,
             phase: Phase::Serving,
             farewell: Farewell::new(Vec::new(alloc)),
             moved: None,
             has_begun: false,
             has_waited: false,
             origin,
-            taken: 0,
-            share,
+            intake: Intake::new(share),
+            since,
+            is_starved: false,
             starved: None,
             _place: place,
         })
@@ -280,14 +282,17 @@ impl Client {
 
     /// Whether it waits for room.
     pub(crate) fn is_starved(&self) -> bool {
-        self.starved.is_some()
+        self.is_starved
     }
 
-    /// Whether it has waited for room for as long as it may.
+    /// Whether it has waited for room for as long as it may. If the clock does not say it, it has not.
     pub(crate) fn has_starved<R: Clock>(&self, rt: &R) -> bool {
-        match self.origin.wait {
-            Some(wait) => is_past(rt, self.starved, wait),
-            None => false,
+        let (Some(wait), Some(start)) = (self.origin.wait, self.starved) else {
+            return false;
+        };
+        match start.elapsed(rt) {
+            Ok(spent) => spent >= Duration::from_millis(wait),
+            Err(_) => false,
         }
     }
 
@@ -329,19 +334,52 @@ impl Client {
         matches!(self.connection.state(), State::Closing(Reason::EndOfInput))
     }
 
+    // Reads once, as much as there is room for. Returns how many bytes came.
+    fn read(&mut self) -> io::Result<usize>
+        ensures { (history self.new).calls ≡ (history self.old).calls }
+    {
+        let most = self.intake.ahead();
+        match self.connection.read_from(&mut (&self.stream).take(most)) {
+            Ok(count) if count as u64 > most => {
+                // No more is read than that, but the prover does not see it.
+                self.phase = Phase::Leaving;
+                Err(ErrorKind::Other.into())
+            }
+            Ok(count) => {
+                self.intake.add(count as u64);
+                Ok(count)
+            }
+            Err(error) => Err(error),
+        }
+    }
+
+    // Notes after a read whether a request has begun that has not come whole. If there is an answer to
+    // send, its share of the room is free.
+    fn note_read(&mut self)
+        ensures { self.new ≡ self.old }
+    {
+        let has_answer = self.connection.wants_write() && !is_interim(self.connection.output());
+        self.has_begun = !has_answer;
+        if has_answer {
+            self.since = Snapshot::of(&self.connection);
+            self.intake.free();
+        }
+    }
+
     // Sends what is pending, or else reads once, and answers what was read. Returns how many bytes
     // moved.
     fn exchange<S: Service>(&mut self, service: &mut S) -> io::Result<usize>
         ensures { Calls S.answers service.old service.new (history self.old).calls
             (history self.new).calls }
     {
-        let has_sent = self.connection.wants_write();
-        let count = exchange(&mut self.connection, &mut self.stream)?;
-        self.connection.advance(service);
-        if !has_sent {
-            self.has_begun = !self.connection.wants_write() || is_interim(self.connection.output());
-            self.taken = self.taken.saturating_add(count as u64);
+        if self.connection.wants_write() {
+            let count = send(&mut self.connection, &mut self.stream)?;
+            self.connection.advance(service);
+            return Ok(count);
         }
+        let count = self.read()?;
+        self.connection.advance(service);
+        self.note_read();
         Ok(count)
     }
 
@@ -374,17 +412,32 @@ impl Client {
 
     // Takes the answers that are pending, and a refusal with a body in place of the one without: these
     // are sent last. Returns whether allocation succeeded.
-    fn part(&mut self) -> bool
+    fn part<G: Signals>(&mut self, signals: &G) -> bool
         ensures { (history self.new).calls ≡ (history self.old).calls }
     {
         let Ok(pending) = take_pending(self.alloc, &mut self.connection) else {
             return false;
         };
-        let Ok(message) = with_body(self.alloc, pending.as_slice()) else {
+        let Ok((message, status)) = with_body(self.alloc, pending.as_slice()) else {
             return false;
         };
+        signals.note_refusal(status, self.peer());
         self.say_last(message);
         true
+    }
+
+    // Refuses the request that has begun, with this status, and closes.
+    fn refuse<G: Signals>(&mut self, signals: &G, status: u16) -> Next
+        ensures { self.new ≡ self.old }
+    {
+        match refusal_message(self.alloc, status) {
+            Ok(message) => {
+                signals.note_refusal(status, self.peer());
+                self.say_last(message);
+                Next::Step
+            }
+            Err(_) => Next::End,
+        }
     }
 
     // Sends this, and nothing after it.
@@ -393,59 +446,60 @@ impl Client {
     {
         self.farewell = Farewell::new(message);
         self.phase = Phase::Parting;
-        self.free();
+        self.intake.free();
     }
 
-    // Its share of the room is free, unless a request has begun.
-    fn free_if_resting(&mut self)
-        ensures { self.new ≡ self.old }
-    {
-        if !self.has_begun {
-            self.free();
-        }
+    // Whether it reads next.
+    fn reads(&self) -> bool {
+        self.phase == Phase::Serving && !self.connection.wants_write()
     }
 
-    fn free(&mut self)
+    // It waits for room no more. Its client was not idle while it was not read.
+    fn end_wait(&mut self)
         ensures { self.new ≡ self.old }
     {
-        self.taken = 0;
-        self.share.free();
-    }
-
-    // Whether it would read, and there is room for that.
-    fn has_room(&mut self) -> bool
-        ensures { self.new ≡ self.old }
-    {
-        let reads = self.phase == Phase::Serving && !self.connection.wants_write();
-        let needed = self.taken.saturating_add(PIECE).saturating_sub(FREE);
-        let has_room = !reads || self.share.reach(needed);
-        if has_room && self.starved.is_some() {
-            // Its client was not idle while it was not read.
+        if self.is_starved {
+            self.is_starved = false;
             self.starved = None;
             self.moved = None;
         }
-        has_room
     }
 
     // What follows if there is no room: it waits, and after a time its request is refused.
-    fn starve<R: Clock>(&mut self, rt: &R) -> Next
+    fn starve<R: Clock, G: Signals>(&mut self, rt: &R, signals: &G) -> Next
         ensures { self.new ≡ self.old }
     {
+        self.is_starved = true;
         if self.starved.is_none() {
             self.starved = Instant::now(rt).ok();
         }
-        if self.starved.is_some() && !self.has_starved(rt) {
+        if !self.has_starved(rt) {
             return Next::Park;
         }
+        self.is_starved = false;
         self.starved = None;
-        match refusal_message(self.alloc, 429) {
-            Ok(message) => {
-                self.share.refuse();
-                self.say_last(message);
-                Next::Step
-            }
-            Err(_) => Next::End,
+        let next = self.refuse(signals, 429);
+        if let Next::Step = next {
+            self.intake.refuse();
         }
+        next
+    }
+
+    // Finds room for what was read, if it reads next. `Some`: what follows if there is none.
+    fn find_room<R: Clock, G: Signals>(&mut self, rt: &R, signals: &G) -> Option<Next>
+        ensures { self.new ≡ self.old }
+    {
+        if !self.reads() {
+            return None;
+        }
+        if self.intake.is_too_large() {
+            return Some(self.refuse(signals, 413));
+        }
+        if !self.intake.reach() {
+            return Some(self.starve(rt, signals));
+        }
+        self.end_wait();
+        None
     }
 
     // Ends the connection in good order: all is sent.
@@ -582,20 +636,17 @@ impl Client {
         ensures { Calls S.answers service.old service.new (history self.old).calls
             (history self.new).calls }
     {
-        if self.is_refused() && !self.part() {
+        if self.is_refused() && !self.part(signals) {
             return Next::End;
         }
         if self.is_done() {
             return self.leave(rt);
         }
-        if !self.has_room() {
-            return self.starve(rt);
+        if let Some(next) = self.find_room(rt, signals) {
+            return next;
         }
         match self.step(service) {
-            Ok(step) => {
-                self.free_if_resting();
-                self.next(rt, watch, step, signals, idle)
-            }
+            Ok(step) => self.next(rt, watch, step, signals, idle),
             Err(_) => Next::End,
         }
     }
@@ -645,7 +696,8 @@ impl Client {
 
 // Takes what a connection has to send.
 fn take_pending(alloc: Global, connection: &mut Connection) -> Result<Vec<u8>, AllocError>
-    ensures { (history connection.new).calls ≡ (history connection.old).calls }
+    ensures calls { (history connection.new).calls ≡ (history connection.old).calls }
+    ensures received { (history connection.new).received ≡ (history connection.old).received }
 {
     let mut pending = Vec::new(alloc);
     'pieces: while connection.wants_write() {

@@ -24,17 +24,18 @@ fn status_of(head: &[u8]) -> u16 {
     status
 }
 
-/// What is pending, with a refusal that has a body in place of the one at its end.
-pub(crate) fn with_body(alloc: Global, pending: &[u8]) -> Result<Vec<u8>, AllocError> {
+/// What is pending, with a refusal that has a body in place of the one at its end, and the status of that.
+pub(crate) fn with_body(alloc: Global, pending: &[u8]) -> Result<(Vec<u8>, u16), AllocError> {
     let mut message = Vec::new(alloc);
     let Some(place) = last_head(pending) else {
-        return Ok(message);
+        return Ok((message, 0));
     };
     let Some((answers, head)) = pending.split_at_checked(place) else {
-        return Ok(message);
+        return Ok((message, 0));
     };
     message.extend_from_slice(answers)?;
-    let refusal = refusal_message(alloc, status_of(head))?;
+    let status = status_of(head);
+    let refusal = refusal_message(alloc, status)?;
     message.extend_from_slice(refusal.as_slice())?;
-    Ok(message)
+    Ok((message, status))
 }

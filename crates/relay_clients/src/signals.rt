@@ -1,4 +1,5 @@
 //! What a connection goes by while it is served.
+use std::net::SocketAddr;
 
 /// What a server tells the threads that serve its connections, and what they tell it.
 pub trait Signals {
@@ -16,6 +17,10 @@ pub trait Signals {
 
     /// A connection was closed as soon as it was accepted, since too many are open.
     fn add_refused(&self);
+
+    /// A request got this status before the service saw it: `http_server` refused it, it was too large as it was sent, or there was no
+    /// room for it. `peer`: its connection's other end, if the system says it.
+    fn note_refusal(&self, status: u16, peer: Option<SocketAddr>);
 
     /// No connection is accepted any more.
     fn shut(&self);

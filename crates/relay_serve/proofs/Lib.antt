@@ -8,3 +8,4 @@ pub mod Acknowledging
 pub mod Delivering
 pub mod Turning
 pub mod Valid
+pub mod Crossing

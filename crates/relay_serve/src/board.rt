@@ -1,8 +1,10 @@
 //! What the threads of a server share.
+use crate::clerk::say_refusal;
 use crate::counts::Counts;
-use crate::options::ServeOptions;
+use crate::options::{ServeLog, ServeOptions};
 use relay_clients::{Places, Room, Signals};
 use std::alloc::{AllocError, Global};
+use std::net::SocketAddr;
 use std::sync::Arc;
 use std::sync::atomic::{AtomicU64, Ordering};
 use std::time::Instant;
@@ -15,6 +17,10 @@ const REPORTS: u64 = 100_000;
 /// served, and what is counted. Each part is read separately.
 #[derive(Drop)]
 pub struct Board {
+    // What is said on standard error, and by what.
+    log: ServeLog,
+    host: HostRuntime,
+    alloc: Global,
     ending: AtomicU64,
     shut: AtomicU64,
     turning: AtomicU64,
@@ -73,6 +79,12 @@ impl Signals for Board {
         self.refused.fetch_add(1, Ordering::SeqCst);
     }
 
+    fn note_refusal(&self, status: u16, peer: Option<SocketAddr>) {
+        if self.log.has_requests() {
+            say_refusal(self.host, self.alloc, peer, status);
+        }
+    }
+
     fn shut(&self) {
         self.shut.store(1, Ordering::SeqCst);
     }
@@ -94,6 +106,9 @@ impl Board {
         Ok(Arc::new(
             alloc,
             Board {
+                log: options.log,
+                host: *host,
+                alloc,
                 ending: AtomicU64::new(0),
                 shut: AtomicU64::new(0),
                 turning: AtomicU64::new(0),

@@ -43,6 +43,27 @@ fn end_line(text: &mut Vec<u8>, numbers: [u64; 4]) -> Result<(), AllocError> {
     Ok(())
 }
 
+// The line about a request that was not read: it has neither a method nor a path.
+fn refusal_line<R: Clock>(
+    rt: &R,
+    alloc: Global,
+    peer: Option<SocketAddr>,
+    status: u16,
+) -> Result<Vec<u8>, AllocError> {
+    let mut text = begun_line(rt, alloc, peer)?;
+    text.extend_from_slice(b"- -")?;
+    end_line(&mut text, [u64::from(status), 0, 0, 0])?;
+    Ok(text)
+}
+
+/// Says that a request was refused with this status before it was read.
+pub(crate) fn say_refusal(host: HostRuntime, alloc: Global, peer: Option<SocketAddr>, status: u16) {
+    if let Ok(line) = refusal_line(&host, alloc, peer, status) {
+        let mut err = StdStream::new(host.stderr());
+        say(&mut err, line.as_slice());
+    }
+}
+
 /// Writes down things beside a worker's answers, and knows whom the worker serves.
 #[derive(Drop)]
 pub(crate) struct Clerk {

@@ -208,7 +208,7 @@ fn add_requests(text: &mut Vec<u8>, board: &Board) -> Result<(), AllocError> {
         text,
         "relay_open_bytes",
         "gauge",
-        "Bytes of requests that were read and not yet answered, beyond the first 16384 of each.",
+        "Room that requests have taken which were read and not yet answered, for their bytes beyond the first 16384 of each, in portions of 65536.",
         board.room.open(),
     )?;
     add_single(

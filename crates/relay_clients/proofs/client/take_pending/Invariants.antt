@@ -6,6 +6,6 @@ use Rattle.relay_clients.proofs.client.take_pending.Given as goal
 abbrev pub decreases-pieces : goal.decreases-pieces
 decreases-pieces l = length (history l.connection).pending
 
--- no call is made
+-- no call is made, and nothing is received
 abbrev pub invariant-pieces : goal.invariant-pieces
-invariant-pieces l = (history l.connection).calls ≡ (history l.fn.connection).calls
+invariant-pieces l = ((history l.connection).calls ≡ (history l.fn.connection).calls) × ((history l.connection).received ≡ (history l.fn.connection).received)
