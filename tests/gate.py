@@ -5,7 +5,8 @@ each crate: for its proof, its tests and its edits. What ends between two looks 
 earlier one. The budget of a crate is 15 processor minutes, and 20 for the largest (`docs/CONTRIBUTING.md`).
 
 `rt ci` by itself leaves processors idle that could prove: it runs so few checks at once as its estimate of their memory says, and most
-take less than half of that. So where a processor has as much memory as the largest check was seen to take, this runs a check on each.
+take less than half of that. So where there is as much memory for each processor as most of them take at the most, this runs a check on
+each processor.
 
 Before `rt ci` tries the must-fail edits of a crate, it proves the crate once more, into a folder that it removes later. This
 keeps a copy, with which `edits.py` begins; without one it proves no function but those that are edited.
@@ -36,7 +37,7 @@ STEPS = (
 )
 PARTS = ("proof", "tests", "edits")
 BUDGET, LARGEST = 15, 20
-# The memory of the largest check, in bytes.
+# What most checks take of memory at the most, in bytes.
 MEMORY = 5 << 30
 # How many crates have a row in what is left.
 ROWS_LEFT = 15

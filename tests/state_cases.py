@@ -152,6 +152,19 @@ def refused():
         check("refused together: %s" % more, done.returncode == 1 and done.stdout == b"" and b"error: " in done.stderr, done)
 
 
+def names_beside():
+    """An input with the name of a file that is kept beside the state is not written over."""
+    for end in (".lock", ".new"):
+        with tempfile.TemporaryDirectory() as folder:
+            server, path = Server(), os.path.join(folder, "state" + end)
+            os.rename(written(folder, 0, operations(0, 50, 5)), path)
+            text = open(path).read()
+            status, out, err = finish(server.port, folder, [path])
+            check("an input named state%s stays" % end, open(path).read() == text, os.path.getsize(path))
+            check("an input named state%s is refused" % end, (status, out) == (3, b"") and server.requests == 0, (status, out, err))
+            server.close()
+
+
 def two_at_once():
     """A second run with the same state is refused, and told who has it."""
     with tempfile.TemporaryDirectory() as folder:
@@ -172,7 +185,7 @@ def replaced():
     with tempfile.TemporaryDirectory() as folder:
         files, server = [written(folder, 0, operations(0, 50, 5))], Server()
         new = os.path.join(folder, "state.new")
-        add(new, "half of a state that was never renamed")
+        add(new, '{"epoch":7,"inputs":[{"path":"half of a state that')
         check("after half a replacement", finish(server.port, folder, files)[0] == 0 and marks_of(folder)[0][2] == 50, state_of(folder))
         add(files[0], '{"delete":{"_index":"books","_id":"new"}}\n')
         os.symlink("/dev/full", new)
@@ -219,7 +232,9 @@ def killed_in_a_replacement():
                 ops.append(("%d-%d" % (number, place), None))
                 add(files[0], '{"delete":{"_index":"books","_id":"%s"}}\n' % ops[-1][0])
                 old, applied = state_of(folder), len(server.index.applied)
-                trace = ["strace", "-f", "-qq", "-o", "/dev/null", "-P", os.path.join(folder, on), "-e", "trace=" + name, "-e", "inject=%s:signal=KILL:when=%d" % (name, number)]
+                # The first time that it opens the new file, a run looks whether it is there.
+                calls = number + ((name, on) == REPLACES[0])
+                trace = ["strace", "-f", "-qq", "-o", "/dev/null", "-P", os.path.join(folder, on), "-e", "trace=" + name, "-e", "inject=%s:signal=KILL:when=%d" % (name, calls)]
                 done = subprocess.run([*trace, *command(server.port, folder, files)], stdin=subprocess.DEVNULL, capture_output=True, timeout=60)
                 now, is_new = state_of(folder), place > REPLACES.index(("rename", "state.new"))
                 epoch = old["epoch"] + (number == 2 or is_new)
@@ -441,4 +456,4 @@ def until_there():
         server.close()
 
 
-GROUPS = (from_run_to_run, refused, two_at_once, replaced, killed_in_a_replacement, until_idle, until_busy, by_its_unit, until_there, killed)
+GROUPS = (from_run_to_run, refused, names_beside, two_at_once, replaced, killed_in_a_replacement, until_idle, until_busy, by_its_unit, until_there, killed)

@@ -51,50 +51,71 @@ Then-send = option.the_send Then (search crosses)
 StateFile-send : IsSend StateFile.the_row
 StateFile-send =
     view_send StateFileInside.the_row _ _ _ _ (
-      recorded_send (StateFileInside.the_field).row _ _ (StateFileInside.the_type).to_one (
-        struct_send (shape StateFileInside.the_type) (
-          host.the_field_send,
-          (String-send, (String-send, (String-send, (file.the_field_send, (
-            log.the_send (Vec.the_row u8 Global.the_row ghosts) (Option.the_row Then) (Vec-send u8 (plain_send _ _ _ _ _)) Then-send,
-            tt,
-          ))))),
-        )
-      )
+    recorded_send (StateFileInside.the_field).row _ _ (StateFileInside.the_type).to_one (
+    struct_send (shape StateFileInside.the_type) (
+      host.the_field_send,
+      (
+        String-send,
+        (
+          String-send,
+          (
+            String-send,
+            (
+              file.the_field_send,
+              (
+                log.the_send (Vec.the_row u8 Global.the_row ghosts) (Option.the_row Then) (Vec-send u8 (plain_send _ _ _ _ _)) Then-send,
+                tt,
+              ),
+            ),
+          ),
+        ),
+      ),
+    )
+    )
     )
 
 Resumed-send : IsSend Resumed.the_row
 Resumed-send =
     view_send ResumedInside.the_row _ _ _ _ (
-      recorded_send (ResumedInside.the_field).row _ _ (ResumedInside.the_type).to_one (
-        struct_send (shape ResumedInside.the_type) (
-          StateFile-send,
-          (state.the_field_send, (option.the_field_send File.the_row file.the_send, (Vec-send u32 (plain_send _ _ _ _ _), (
-            plain_send _ _ _ _ _,
-            (Vec-send Mark.the_row mark.the_send, (search crosses, tt)),
-          )))),
-        )
-      )
+    recorded_send (ResumedInside.the_field).row _ _ (ResumedInside.the_type).to_one (
+    struct_send (shape ResumedInside.the_type) (
+      StateFile-send,
+      (
+        state.the_field_send,
+        (
+          option.the_field_send File.the_row file.the_send,
+          (
+            Vec-send u32 (plain_send _ _ _ _ _),
+            (
+              plain_send _ _ _ _ _,
+              (Vec-send Mark.the_row mark.the_send, (search crosses, tt)),
+            ),
+          ),
+        ),
+      ),
+    )
+    )
     )
 
 Kept-send : IsSend Kept.the_row
 Kept-send =
     view_send KeptInside.the_row _ _ _ _ (
-      recorded_send (KeptInside.the_field).row _ _ (KeptInside.the_type).to_one (struct_send (shape KeptInside.the_type) (Resumed-send, (marks.the_send, tt)))
+    recorded_send (KeptInside.the_field).row _ _ (KeptInside.the_type).to_one (struct_send (shape KeptInside.the_type) (Resumed-send, (marks.the_send, tt)))
     )
 
 pub Keeper-send : IsSend Keeper.the_row
 Keeper-send =
     recorded_send (Keeper.the_field).row _ _ (Keeper.the_type).to_one (
-      struct_send (shape Keeper.the_type) (
-        host.the_field_send,
+    struct_send (shape Keeper.the_type) (
+      host.the_field_send,
+      (
+        option.the_field_send Kept.the_row Kept-send,
         (
-          option.the_field_send Kept.the_row Kept-send,
-          (
-            option.the_field_send (String.the_row Global.the_row ghosts) Text-send,
-            (option.the_field_send (Arc.the_row Stop.the_row Global.the_row ghosts) (Arc-send Stop.the_row stop.the_send stop.the_sync), (plain_send _ _ _ _ _, tt)),
-          ),
+          option.the_field_send (String.the_row Global.the_row ghosts) Text-send,
+          (option.the_field_send (Arc.the_row Stop.the_row Global.the_row ghosts) (Arc-send Stop.the_row stop.the_send stop.the_sync), (plain_send _ _ _ _ _, tt)),
         ),
-      )
+      ),
+    )
     )
 
 -- the end of the channel that ends such a thread

@@ -1,6 +1,6 @@
 //! Sending files of operations to an index: the function behind `relay run`.
 ghost use Rattle.std.specs.Prelude.{◌≡◌, ℕ, IfOk, IfSome, IsTrue, length, map, string_bytes, true, vec_len};
-ghost use Rattle.std.specs.Prelude.{◌≤◌, [], slice_get};
+ghost use Rattle.std.specs.Prelude.{◌≤◌, [], is_some, slice_get};
 ghost use Rattle.relay_http.specs.WrittenRequest.{is_host};
 ghost use Rattle.relay_run.specs.ReportFile.{AreNewHandles};
 ghost use Rattle.relay_run.specs.Saving.{AreNew, AreUntold, lane_seat, seat_of};
@@ -133,7 +133,7 @@ fn say_end<W: Drop, O: ByteOut, E: ByteOut>(
             opened,
             notes,
             starts,
-            met_ran(alloc, &options.files, marks, &ended.state, ran)?,
+            met_ran(alloc, &options.files, marks, &ended.state, ran),
             &common.stop,
             out,
             err,
@@ -177,19 +177,19 @@ fn meet_if(
 }
 
 // Does so with what a run gave back that has ended, if there is a keeper: in proofs, this shows what is
-// before each mark that it gave.
+// before each mark that it gave. If memory is short for that, nothing is shown, and the run ends as ever.
 fn met_ran<W: Drop>(
     alloc: Global,
     files: &[String],
     marks: Option<MarkKeeper>,
     state: &Option<Resumed>,
     ran: Ran<W, ReportOut>,
-) -> Result<Ran<W, ReportOut>, AllocError>
+) -> Ran<W, ReportOut>
     requires told { IfOk ran.end (λ _. IsToldIf (bounds_of marks) (map teller_of ran.inputs.items)
         (map seat_of ran.tells.items)) }
     requires goes { GoIf marks state.now }
     requires paths { IfSome state.now (λ s. s.reads.files ≡ map string_bytes files.now) }
-    ensures { IfOk result (λ r. r.faults ≡ ran.faults) }
+    ensures { result.faults ≡ ran.faults }
 {
     let Ran {
         faults,
@@ -199,15 +199,15 @@ fn met_ran<W: Drop>(
         inputs,
     } = ran;
     if let (Some(marks), Some(state)) = (marks, state) {
-        meet_if(alloc, files, marks, state, end.is_ok(), inputs, tells)?;
+        let _ = meet_if(alloc, files, marks, state, end.is_ok(), inputs, tells);
     }
-    Ok(Ran {
+    Ran {
         faults,
         end,
         tells: Vec::new(alloc),
         unsaved,
         inputs: Vec::new(alloc),
-    })
+    }
 }
 
 // What has become of a run.
@@ -547,6 +547,7 @@ fn ends_of(
         (map lane_seat e.lanes.items)) }
     ensures keeper { IfOk result (λ e. IfSome e.keeper (λ k. (k.starts ≡ starts.now)
         × (k.given ≡ []))) }
+    ensures kept { IsTrue (is_some resumed.now) → IfOk result (λ e. is_some e.keeper ≡ true) }
 {
     match resumed {
         Some(_) => Ends::new(alloc, starts, lanes),

@@ -1,5 +1,5 @@
 //! Keeping the state of a run while it works, and looking for the file that ends it.
-ghost use Rattle.std.specs.Prelude.{◌≡◌, IfOk, IfSome, None};
+ghost use Rattle.std.specs.Prelude.{◌≡◌, ◌&&◌, IfOk, IfSome, None, is_some};
 ghost use Rattle.relay_run.specs.Marks.{EndsBy, fixed, fixed_of, held_by};
 ghost use Rattle.relay_run.specs.Written.{AreBegun, IsKeptOf};
 
@@ -25,6 +25,9 @@ const TURN: u64 = 20;
 const LOOK: u64 = 100;
 
 const WRITE: u64 = 1_000;
+
+// How many messages are taken in a turn, so that the state is written however fast others tell.
+const MESSAGES: u32 = 65_536;
 
 // Whether it is so long ago, in milliseconds, or the clock cannot be read.
 fn has_passed<R: Clock>(rt: &R, since: &Option<Instant>, limit: u64) -> bool {
@@ -61,7 +64,8 @@ impl Model for Kept {
 /// A state that is kept by what the threads of a run tell, if there are both.
 pub(crate) fn kept_of(resumed: Option<Resumed>, marks: Option<MarkKeeper>) -> Option<Kept>
     requires { AreBegun resumed marks }
-    ensures { IfSome result (λ k. IsKeptOf k resumed marks) }
+    ensures kept { IfSome result (λ k. IsKeptOf k resumed marks) }
+    ensures both { is_some result ≡ (is_some resumed && is_some marks) }
 {
     match (resumed, marks) {
         (Some(state), Some(marks)) => Some(Kept { state, marks }),
@@ -80,11 +84,11 @@ impl Kept {
         }
     }
 
-    // Takes what was told.
-    fn follow<R: Wait>(&mut self, rt: &R)
+    // Takes what was told, at most so many messages.
+    fn follow<R: Wait>(&mut self, rt: &R, most: u32)
         ensures { fixed self.new ≡ fixed self.old }
     {
-        'notices: for _ in rt.forever() {
+        'notices: for _ in 0..most {
             if !self.follow_one(rt) {
                 return;
             }
@@ -139,12 +143,12 @@ impl Keeper {
         }
     }
 
-    // Takes what was told.
-    fn follow<R: Wait>(&mut self, rt: &R)
+    // Takes what was told, at most so many messages.
+    fn follow<R: Wait>(&mut self, rt: &R, most: u32)
         ensures { fixed_of self.new.kept ≡ fixed_of self.old.kept }
     {
         if let Some(kept) = &mut self.kept {
-            kept.follow(rt);
+            kept.follow(rt, most);
         }
     }
 
@@ -172,7 +176,7 @@ impl Keeper {
             if let Err(RecvTimeoutError::Disconnected) = waited {
                 return;
             }
-            self.follow(rt);
+            self.follow(rt, MESSAGES);
             if has_passed(rt, &written, WRITE) {
                 self.save(alloc);
                 written = Instant::now(rt).ok();
@@ -283,7 +287,7 @@ fn join_keeping<R: Threads + Wait>(rt: &R, alloc: Global, keeping: Keeping) -> K
     let Keeping { ended, thread } = keeping;
     drop(ended);
     let mut keeper = thread.join(rt);
-    keeper.follow(rt);
+    keeper.follow(rt, u32::MAX);
     keeper.save(alloc);
     keeper
 }

@@ -1,6 +1,6 @@
 //! Going on with the files of a run where its state says.
-ghost use Rattle.std.specs.Prelude.{◌≡◌, ◌≤◌, [], ℕ, IfOk, List, OnOk, length, map, slice_get};
-ghost use Rattle.std.specs.Prelude.{string_bytes, vec_len};
+ghost use Rattle.std.specs.Prelude.{◌≡◌, ◌<◌, ◌≤◌, [], ℕ, IfOk, IfSome, List, OnOk, length, map};
+ghost use Rattle.std.specs.Prelude.{slice_get, string_bytes, vec_len};
 ghost use Rattle.relay_run.specs.Marks.{bound};
 ghost use Rattle.relay_run.specs.Written.{AreRead, GivesMore, GoesBy, IsBegun, MovesOne, OpensOne};
 ghost use Rattle.relay_run.specs.Written.{StillRead};
@@ -148,7 +148,9 @@ fn mark_of(
     path: &str,
     file: &mut File,
     then: Option<&InputState>,
-) -> Result<Mark, ResumeFault> {
+) -> Result<Mark, ResumeFault>
+    ensures { IfOk result (λ m. IfSome then.entry (λ t. (t.now.path ≡ path.now) × (m ≡ t.now.mark))) }
+{
     let Some(then) = then else {
         return Ok(START);
     };
@@ -269,7 +271,10 @@ fn is_regular(file: &File) -> bool {
 }
 
 // The epoch after that of the old state, and at least this one.
-fn next_epoch(old: Option<&State>, least: u32) -> Result<u32, StateFileFault> {
+fn next_epoch(old: Option<&State>, least: u32) -> Result<u32, StateFileFault>
+    ensures least { IfOk result (λ e. least ≤ e) }
+    ensures rises { IfOk result (λ e. IfSome old.entry (λ s. s.now.epoch < e)) }
+{
     let last = match old {
         Some(old) => old.epoch,
         None => 0,
@@ -293,6 +298,7 @@ pub(crate) fn resume(
     requires { file ≡ [] }
     ensures begun { IfOk result IsBegun }
     ensures files { IfOk result (λ r. r.reads.files ≡ map string_bytes paths.now.items) }
+    ensures written { IfOk result (λ r. length r.written ≡ 1) }
 {
     let mut file = file;
     let old = file.read(alloc)?;

@@ -1,5 +1,5 @@
 //! What the threads of a run tell the keeper of its marks.
-ghost use Rattle.std.specs.Prelude.{◌≡◌, ◌++◌, ◌∷◌, [], IfOk, IfSome, None, length, map};
+ghost use Rattle.std.specs.Prelude.{◌≡◌, ◌++◌, ◌∷◌, [], IfOk, IfSome, None, is_some, length, map, true};
 ghost use Rattle.std.specs.Prelude.{vec_len};
 ghost use Rattle.relay_resume.specs.Lines.{AreOf};
 ghost use Rattle.relay_keeping.specs.Tellers.{places_of, seat};
@@ -275,6 +275,7 @@ impl Ends {
             (map lane_seat e.lanes.items)) }
         ensures keeper { IfOk result (λ e. IfSome e.keeper (λ k. (k.starts ≡ starts.now)
             × (k.given ≡ []))) }
+        ensures kept { IfOk result (λ e. is_some e.keeper ≡ true) }
     {
         if starts.len() > MOST || lanes > MOST {
             return Err(AllocError);

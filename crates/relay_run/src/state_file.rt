@@ -1,5 +1,5 @@
 //! The file in which a run keeps its state.
-ghost use Rattle.std.specs.Prelude.{◌≡◌, [], IfOk};
+ghost use Rattle.std.specs.Prelude.{◌≡◌, ◌≤◌, [], IfOk, IfSome, OnOk};
 ghost use Rattle.relay_resume.specs.Texts.{state_text};
 ghost use Rattle.relay_run.specs.Written.{MayWrite, and_written, past_if};
 
@@ -14,6 +14,12 @@ use std::io::{ErrorKind, Read, Write};
 use std::marker::Model;
 use std::snapshot::Snapshot;
 use std::{fs, process};
+
+// The front of each state.
+const STATE_FRONT: &[u8] = b"{\"epoch\":";
+
+// The length of the longest line of a number of 64 bits, in bytes.
+const NUMBER_LIMIT: u64 = 21;
 
 /// Why the state of a run cannot be used. Nothing was sent.
 #[derive(Clone, Copy, Debug, PartialEq, Eq)]
@@ -84,9 +90,11 @@ fn folder_of(alloc: Global, path: &str) -> Result<String, AllocError> {
     }
 }
 
-// The process whose number a file holds, if it holds one, of which at most 64 bytes are read.
-fn holder_of(file: &mut File) -> Option<u64> {
-    let mut bytes = [0u8; 64];
+// Reads at most 64 bytes at the front of a file, and returns how many they are; `None` if it cannot be
+// read.
+fn read_front(file: &mut File, bytes: &mut [u8; 64]) -> Option<usize>
+    ensures { IfSome result (λ n. n ≤ 64) }
+{
     let mut length = 0usize;
     'reads: while length < bytes.len() {
         match file.read(&mut bytes[length..]) {
@@ -95,9 +103,31 @@ fn holder_of(file: &mut File) -> Option<u64> {
             Err(_) => return None,
         }
     }
+    Some(length)
+}
+
+// The process whose number a file holds, if it holds one.
+fn holder_of(file: &mut File) -> Option<u64> {
+    let mut bytes = [0u8; 64];
+    let length = read_front(file, &mut bytes)?;
     match std::str::from_utf8(&bytes[..length]) {
         Ok(text) => number_of(text.trim()),
         Err(_) => None,
+    }
+}
+
+// Whether a file may be written over that has this name: there is none, or it is what a run left there
+// that ended while it wrote a state, of which a loss of power may leave zeros.
+fn is_left(host: &HostRuntime, name: &str) -> bool {
+    let Ok(mut file) = File::open(host, name) else {
+        return true;
+    };
+    let mut bytes = [0u8; 64];
+    match read_front(&mut file, &mut bytes) {
+        Some(length) => {
+            bytes[0] == 0 || STATE_FRONT.starts_with(&bytes[..length.min(STATE_FRONT.len())])
+        }
+        None => false,
     }
 }
 
@@ -108,7 +138,8 @@ fn number_line(alloc: Global, number: u64) -> Result<Vec<u8>, AllocError> {
     Ok(text)
 }
 
-// Locks the file with this name, and writes the number of this process into it.
+// Locks the file with this name, and writes the number of this process into it. A file that is longer
+// than such a number is another one.
 fn lock(host: &HostRuntime, alloc: Global, name: &str) -> Result<File, StateFileFault> {
     let mut how = OpenOptions::new();
     how.read(true).write(true).create(true);
@@ -119,6 +150,11 @@ fn lock(host: &HostRuntime, alloc: Global, name: &str) -> Result<File, StateFile
         Ok(()) => {}
         Err(TryLockError::WouldBlock) => return Err(StateFileFault::Locked(holder_of(&mut file))),
         Err(TryLockError::Error(error)) => return Err(StateFileFault::Device(error.kind())),
+    }
+    match file.metadata() {
+        Ok(found) if found.len() <= NUMBER_LIMIT => {}
+        Ok(_) => return Err(StateFileFault::Device(ErrorKind::AlreadyExists)),
+        Err(error) => return Err(StateFileFault::Device(error.kind())),
     }
     let text = number_line(alloc, process::id(host.process()) as u64)?;
     match file.set_len(0).and_then(|_| file.write_all(&text)) {
@@ -139,10 +175,14 @@ impl StateFile {
     {
         let name = with_end(alloc, path, ".lock")?;
         let lock = lock(&host, alloc, name.as_str())?;
+        let beside = with_end(alloc, path, ".new")?;
+        if !is_left(&host, beside.as_str()) {
+            return Err(StateFileFault::Device(ErrorKind::AlreadyExists));
+        }
         Ok(StateFile {
             host,
             path: String::from_str(alloc, path)?,
-            beside: with_end(alloc, path, ".new")?,
+            beside,
             folder: folder_of(alloc, path)?,
             _lock: lock,
             written: Log::new(),
@@ -179,7 +219,9 @@ impl StateFile {
         state: &State,
         then: &KeeperThen,
     ) -> Result<(), StateFileFault>
-        ensures { MayWrite (state_text state.now) (past_if (λ s. s.value) then.now) self.old self.new }
+        ensures may { MayWrite (state_text state.now) (past_if (λ s. s.value) then.now) self.old self.new }
+        ensures written { OnOk result (self.new
+            ≡ and_written (state_text state.now) (past_if (λ s. s.value) then.now) self.old) }
     {
         let text = write_state(alloc, state)?;
         match self.replace_text(&text, then) {

@@ -412,7 +412,9 @@ where
     let paces = one(alloc, SleepPace::new(rt))?;
     let tells = tells_of(alloc, 1_000)?;
     let readers = readers_of(alloc)?;
-    let inputs = silent_inputs(alloc, 2).ok()?;
+    let Ok(inputs) = silent_inputs(alloc, CONFIG.producers as usize) else {
+        return None;
+    };
     Some(run(
         rt, alloc, CONFIG, wires, paces, tells, readers, None, &None, inputs,
     ))

@@ -1,5 +1,5 @@
 use Rattle.std.proofs.Common.{◌≤◌, ◌-◌}
-use Rattle.relay_run.proofs.state_file.holder_of.Given as goal
+use Rattle.relay_run.proofs.state_file.read_front.Given as goal
 
 abbrev pub invariant-reads : goal.invariant-reads
 invariant-reads l = l.length ≤ 64
