@@ -24,7 +24,8 @@ fn status_of(head: &[u8]) -> u16 {
     status
 }
 
-/// What is pending, with a refusal that has a body in place of the one at its end, and the status of that.
+/// What is pending, with a refusal that has a body in place of the one at its end, and the status
+/// of that.
 pub(crate) fn with_body(alloc: Global, pending: &[u8]) -> Result<(Vec<u8>, u16), AllocError> {
     let mut message = Vec::new(alloc);
     let Some(place) = last_head(pending) else {

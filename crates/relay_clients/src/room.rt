@@ -1,8 +1,9 @@
-//! How many bytes of requests are open: the room that all connections share, each connection's share of it, and what a connection has
-//! read beside its share.
+//! How many bytes of requests are open: the room that all connections share, each connection's
+//! share of it, and what a connection has read beside its share.
 //!
-//! The room is two words that threads change in single steps: the sum of all shares, and whether one of them goes beyond the room. What
-//! holds of them between any two steps is `IsKept`. A share knows its own part of that by a token of `atomic_table`, which takes no bytes.
+//! The room is two words that threads change in single steps: the sum of all shares, and whether
+//! one of them goes beyond the room. What holds of them between any two steps is `IsKept`. A share
+//! knows its own part of that by a token of `atomic_table`, which takes no bytes.
 ghost use Rattle.std.specs.Prelude.{◌≡◌, ℕ, ◌+◌, ◌-◌, ◌^◌, ◌<◌, ◌≤◌, Bool, true, false, IfOk, IfSome, IsTrue, IsFalse, min, max, nat_lt};
 ghost use Rattle.std.specs.Arc.{arc_value};
 ghost use Rattle.relay_clients.specs.Room.{RoomView, ShareView, SumIsLimited, share_of, stake};
@@ -23,11 +24,12 @@ pub const PIECE: u64 = 8_192;
 /// Room is taken in portions of so many bytes.
 pub const PORTION: u64 = 65_536;
 
-/// The largest share, in bytes. A request that takes more is refused: nothing else limits a chunked body as it is sent, since the
-/// size of a chunk may begin with any number of zeros.
+/// The largest share, in bytes. A request that takes more is refused: nothing else limits a chunked
+/// body as it is sent, since the size of a chunk may begin with any number of zeros.
 pub const LARGEST: u64 = 1_073_741_824;
 
-// How often a share tries to grow while others change the sum. After that it finds no room, and is looked at again soon.
+// How often a share tries to grow while others change the sum. After that it finds no room, and is
+// looked at again soon.
 const TRIES: u32 = 64;
 
 /// What the token of a share knows. No value of it is made.
@@ -112,9 +114,10 @@ struct Counts {
     ghost fits: { most + LARGEST < 2 ^ 64 },
 }
 
-/// The room for the bytes of requests that were read and are not yet answered, on all connections, beyond the first 16,384 of each
-/// request: so what is small is always read. Once the room is taken, one connection at a time may take more, until its request is
-/// answered: so some request always comes to its end. Contracts see how many bytes it has, and which room it is.
+/// The room for the bytes of requests that were read and are not yet answered, on all connections,
+/// beyond the first 16,384 of each request: so what is small is always read. Once the room is
+/// taken, one connection at a time may take more, until its request is answered: so some request
+/// always comes to its end. Contracts see how many bytes it has, and which room it is.
 #[derive(Drop)]
 pub struct Room {
     counts: Arc<Counts, Global>,
@@ -144,7 +147,8 @@ impl Model for Held {
     ghost view = { λ h. share_of (record { most = (arc_value h.counts).most; id = (arc_value h.counts).table.shared.table_id }) h.bytes h.is_beyond };
 }
 
-/// A connection's share of the room. It is free again once this is dropped. Contracts see it as a `ShareView`.
+/// A connection's share of the room. It is free again once this is dropped. Contracts see it as a
+/// `ShareView`.
 pub struct Share {
     held: Held,
 }
@@ -156,8 +160,8 @@ impl Model for Share {
 }
 
 impl Room {
-    /// A room for `most` bytes, of which none is taken, or for as many as leave space for a largest share in 64 bits. `AllocError`:
-    /// allocation failed.
+    /// A room for `most` bytes, of which none is taken, or for as many as leave space for a largest
+    /// share in 64 bits. `AllocError`: allocation failed.
     pub fn new(alloc: Global, most: u64) -> Result<Room, AllocError>
         ensures { IfOk result (λ r. r.most ≡ min most (2 ^ 64 - 1 - LARGEST)) }
     {
@@ -307,7 +311,8 @@ impl Held {
 }
 
 impl Share {
-    /// Has the share grow to so many bytes, if there is room, or else if it may go beyond. Returns whether it has as many.
+    /// Has the share grow to so many bytes, if there is room, or else if it may go beyond. Returns
+    /// whether it has as many.
     pub(crate) fn reach(&mut self, bytes: u64) -> bool
         requires { bytes ≤ LARGEST }
         ensures yes { IsTrue result → self.new.bytes ≡ max self.old.bytes bytes }
@@ -350,7 +355,8 @@ impl Drop for Share {
     }
 }
 
-/// A law: whatever shares connections have, what they add up to is at most the room and one largest share.
+/// A law: whatever shares connections have, what they add up to is at most the room and one largest
+/// share.
 pub fn sum_is_limited()
     ensures { SumIsLimited }
 {}
@@ -363,7 +369,8 @@ fn portions(bytes: u64) -> u64
     bytes.div_ceil(PORTION) * PORTION
 }
 
-/// How many bytes were read of the request that has begun, with their share of the room: never more than the share, `FREE` and a
+/// How many bytes were read of the request that has begun, with their share of the room: never more
+/// than the share, `FREE` and a
 /// `PIECE`.
 #[derive(Drop)]
 pub(crate) struct Intake {
@@ -390,8 +397,8 @@ impl Intake {
         self.taken > FREE + LARGEST
     }
 
-    /// Takes room for what was read, in portions, and not for what is read next. Returns whether there is room: then a piece at least may
-    /// be read.
+    /// Takes room for what was read, in portions, and not for what is read next. Returns whether
+    /// there is room: then a piece at least may be read.
     pub(crate) fn reach(&mut self) -> bool
         requires { self.old.taken ≤ FREE + LARGEST }
         ensures yes { IsTrue result → self.new.taken ≤ FREE + self.new.share.bytes }

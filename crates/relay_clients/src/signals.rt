@@ -18,8 +18,9 @@ pub trait Signals {
     /// A connection was closed as soon as it was accepted, since too many are open.
     fn add_refused(&self);
 
-    /// A request got this status before the service saw it: `http_server` refused it, it was too large as it was sent, or there was no
-    /// room for it. `peer`: its connection's other end, if the system says it.
+    /// A request got this status before the service saw it: `http_server` refused it, it was too
+    /// large as it was sent, or there was no room for it. `peer`: its connection's other end, if
+    /// the system says it.
     fn note_refusal(&self, status: u16, peer: Option<SocketAddr>);
 
     /// No connection is accepted any more.

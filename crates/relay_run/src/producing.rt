@@ -217,9 +217,10 @@ pub(crate) fn own_text(alloc: Global, text: Option<&str>) -> Result<Option<Strin
 }
 
 /// Starts a thread for each producer, which puts the operations of the reader at its position, if
-/// there is one, tells by what is at its position, and closes, unless the run is to stop before. Operations without an index name get
-/// this index, if one is given. Each thread drops its clone of `ended` at its end. `Memory`: an allocation for what a thread is given
-/// failed. `Thread`: one could not be started. Threads that were started then continue.
+/// there is one, tells by what is at its position, and closes, unless the run is to stop before.
+/// Operations without an index name get this index, if one is given. Each thread drops its clone of
+/// `ended` at its end. `Memory`: an allocation for what a thread is given failed. `Thread`: one
+/// could not be started. Threads that were started then continue.
 pub(crate) fn spawn_producers<R, S>(
     rt: R,
     alloc: Global,

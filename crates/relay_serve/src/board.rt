@@ -33,13 +33,13 @@ pub struct Board {
     pub(crate) room: Room,
     // How many operations were put to each lane and have not ended.
     open: Vec<AtomicU64>,
-    // When the server was started. Since when each worker has had open operations, in milliseconds after
-    // that, and 1 more; 0 if it has none. And how many workers the term has.
+    // When the server was started. Since when each worker has had open operations, in milliseconds
+    // after that, and 1 more; 0 if it has none. And how many workers the term has.
     start: Option<Instant>,
     since: Vec<AtomicU64>,
     workers: AtomicU64,
-    // How many connections were closed as soon as they were accepted, and how often operations that were to
-    // be set aside were not.
+    // How many connections were closed as soon as they were accepted, and how often operations that
+    // were to be set aside were not.
     refused: AtomicU64,
     unsaved: AtomicU64,
     epoch: AtomicU64,
@@ -91,7 +91,8 @@ impl Signals for Board {
 }
 
 impl Board {
-    /// The board of a server with these options, which is started now, and whose first term has not begun.
+    /// The board of a server with these options, which is started now, and whose first term has not
+    /// begun.
     pub fn shared(
         host: &HostRuntime,
         alloc: Global,
@@ -134,8 +135,8 @@ impl Board {
         )?)
     }
 
-    /// A term begins, in this epoch. All operations of the one before have ended, whether its workers heard
-    /// so or not.
+    /// A term begins, in this epoch. All operations of the one before have ended, whether its
+    /// workers heard so or not.
     pub(crate) fn begin(&self, epoch: u32) {
         clear(&self.open);
         clear(&self.since);
@@ -233,7 +234,8 @@ impl Board {
         }
     }
 
-    /// For how long the worker that has had open operations for the longest has had some, in milliseconds.
+    /// For how long the worker that has had open operations for the longest has had some, in
+    /// milliseconds.
     pub(crate) fn oldest(&self, now: Option<Instant>) -> u64 {
         let mut first: Option<u64> = None;
         for since in &self.since {
