@@ -29,7 +29,7 @@ REFUSED = b"REFUSED\n"
 FIXTURES = "relay_fixtures"
 # Public calls that allocate and do not report a refusal.
 SILENT = {
-    "relay_keeping": ["InputTelling::read", "InputTelling::put", "InputTelling::flush", "LaneTelling::applied", "LaneTelling::reported", "MarkKeeper::try_follow", "MarkKeeper::follow_within"],
+    "relay_keeping": ["InputTelling::put", "InputTelling::flush", "LaneTelling::applied", "LaneTelling::reported", "MarkKeeper::try_follow"],
     "relay_progress": ["show_progress"],
 }
 # A test should make only a few calls, so it has fewer allocations than this; one run takes a few milliseconds.

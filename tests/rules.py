@@ -125,7 +125,6 @@ HOMES = {
     }),
     "relay_resume": (RESUME, {
         "private: what a trail keeps": CODE,
-        "private: one line is passed": CODE,
         "private: the texts of the inputs": CODE,
         "private: the state in a JSON value": CODE,
     }),

@@ -1,4 +1,6 @@
 """A run that keeps its state: it is killed and started again by the same command, and ended by a file."""
+import collections
+import itertools
 import json
 import os
 import random
@@ -12,26 +14,45 @@ import tempfile
 import threading
 import time
 
-from bulk_server import Server
-from program import FEWER, RELAY, check, leave, run, skip, unlogged
-from run_cases import operations, wait_until, written
+from bulk_server import Server, key_of
+from program import FEWER, RELAY, SECONDS, check, leave, run, skip, unlogged
+from run_cases import is_sent_again, operations, wait_until, written
 
-# How often a run is killed, and the number of its operations.
+# How often a run is killed, and the number of its operations: more than are settled by then, so that each kill hits a run that works.
 KILLS, COUNT = (10, 4_000) if FEWER else (50, 20_000)
+# How many seconds before a state was written its marks may have been taken: the reports are synchronized in between.
+SLACK = 0.4
 COUNTS = re.compile(rb"applied (\d+) already (\d+) reported (\d+)\n\Z")
 
 
+def epoch_of(key):
+    return (key[2] - 1) // 2**40
+
+
 class Noting(Server):
-    """Notes the number of each index action that arrives, as the source has it, by the epoch of its version."""
+    """Notes writes by their index, id and version. `sent` has the number in the source of each that has one. Of each whose operation is settled
+    by the answer, `read` has when that was read, at the latest: when the next request came on its connection; and its status."""
 
     def __init__(self, *more, **options):
-        self.sent = {}
+        self.sent, self.read, self.own = {}, {}, threading.local()
         super().__init__(*more, **options)
 
-    def run(self, kind, meta, source):
-        if source is not None:
-            self.sent.setdefault((meta["version"] - 1) // 2**40, []).append((int(meta["_id"].split("-")[0]), json.loads(source)["n"]))
-        return super().run(kind, meta, source)
+    def serve(self, stream):
+        self.own.answered = []
+        super().serve(stream)
+
+    def answers_early(self, stream):
+        now = time.time()
+        self.read.update((key, (now, status)) for key, status in self.own.answered)
+        self.own.answered = []
+
+    def tell(self, write, at, fault, whole, entries):
+        place, key = super().tell(write, at, fault, whole, entries), key_of(write[1])
+        if write[2] is not None:
+            self.sent[key] = json.loads(write[2])["n"]
+        if not is_sent_again(self.told[key][place]):
+            self.own.answered.append((key, self.told[key][place][1]))
+        return place
 
 
 def command(port, folder, files, *more):
@@ -135,6 +156,7 @@ def refused():
         refuses("another start", (2, b"", b"%s: begins with other bytes than it did\n" % files[1].encode()), files)
         with open(files[1], "r+") as file:
             file.write(text)
+        whole = kept
         for name, damaged in (("an empty state", ""), ("half a state", kept[: len(kept) // 2]), ("a state with a blank", " " + kept)):
             kept = damaged
             with open(state, "w") as file:
@@ -143,7 +165,14 @@ def refused():
         kept = '{"epoch":4194303,"inputs":[]}\n'
         with open(state, "w") as file:
             file.write(kept)
-        refuses("the last epoch", others, files)
+        refuses("the last epoch, of other files", others, files)
+        with open(state, "w") as file:
+            file.write(whole.replace('{"epoch":1,', '{"epoch":4194302,'))
+        status, out, _ = finish(server.port, folder, files)
+        check("the last epoch but one", (status, out) == (0, b"applied 0 already 0 reported 0\n") and state_of(folder)["epoch"] == 4194303, (status, out, state_of(folder)))
+        add(files[0], '{"delete":{"_index":"books","_id":"new"}}\n')
+        kept = open(state).read()
+        refuses("the last epoch", (2, b"", b"%s: holds the last epoch, 4194303\n" % state.encode()), files)
         os.remove(state)
         check("a state that is gone", finish(server.port, folder, files)[0] == 5)
         server.close()
@@ -163,6 +192,24 @@ def names_beside():
             check("an input named state%s stays" % end, open(path).read() == text, os.path.getsize(path))
             check("an input named state%s is refused" % end, (status, out) == (3, b"") and server.requests == 0, (status, out, err))
             server.close()
+
+
+def long_paths():
+    """The longest path that the system opens is kept in a state. A longer one cannot be opened, and nothing is sent."""
+    with tempfile.TemporaryDirectory() as folder:
+        server, ops = Server(), operations(0, 50, 5)
+        path = written(folder, 0, ops)
+        for length in (4_096, 4_097, 5_000):
+            longer = folder + "/" * (1 + length - len(path)) + os.path.basename(path)
+            done = finish(server.port, folder, [longer])
+            check("a path of %d bytes" % length, done == (3, b"", b"%s: open or read failed\n" % longer.encode()) and server.requests == 0 and state_of(folder) is None, done)
+        longest = folder + "/" * (1 + 4_095 - len(path)) + os.path.basename(path)
+        done = finish(server.port, folder, [longest])
+        check("the longest path", done == (0, b"applied 50 already 0 reported 0\n", b"") and state_of(folder)["inputs"][0]["path"] == longest, done)
+        done = finish(server.port, folder, [longest])
+        says = b"%s: goes on after 50 operations, at line %d\n" % (longest.encode(), lines_of(ops) + 1)
+        check("the longest path again", done == (0, b"applied 0 already 0 reported 0\n", says), done)
+        server.close()
 
 
 def two_at_once():
@@ -213,6 +260,30 @@ def replaced():
         server.close()
 
 
+# What `strace` shows of the state of one input: the count of its mark in each write of the new file, and the time of each replacement.
+WRITES, RENAMES = (re.compile(it, re.M) for it in (r'^\d+ +\d+\.\d+ write\(.*\\"count\\":(\d+)\}', r"^\d+ +(\d+\.\d+) rename\("))
+
+
+def once_a_second():
+    """A state is written at the start, once a second while its mark moves, and once at the end, and each time with another mark."""
+    if shutil.which("strace") is None:
+        return skip("how often a state is written", "strace")
+    with tempfile.TemporaryDirectory() as folder:
+        folder, server = os.path.realpath(folder), Server(delay=lambda: 0.1)
+        words = command(server.port, folder, [written(folder, 0, operations(0, 2_200, 50))], "--count", "50", "--linger", "0")
+        trace = ["strace", "-f", "-qq", "-ttt", "-s", "1000", "-o", os.path.join(folder, "log"), "-P", os.path.join(folder, "state.new"), "-e", "trace=write,rename"]
+        done = subprocess.run([*trace, *words], stdin=subprocess.DEVNULL, capture_output=True, timeout=SECONDS)
+        check("a run of several seconds", done.returncode == 0 and done.stdout == b"applied 2200 already 0 reported 0\n", done)
+        with open(os.path.join(folder, "log")) as file:
+            log = file.read()
+        marks, times = list(map(int, WRITES.findall(log))), list(map(float, RENAMES.findall(log)))
+        check("each write has another mark", len(marks) == len(times) and marks == sorted(set(marks)) and marks[:1] + marks[-1:] == [0, 2_200], (marks, times))
+        gaps = [after - before for before, after in zip(times, times[1:])]
+        check("at most once a second, and at the end", all(it > 0.98 for it in gaps[:-1]), gaps)
+        check("about once a second", len(gaps) > 3 and sum(gaps[:-1]) < 1.5 * len(gaps[:-1]), gaps)
+        server.close()
+
+
 # The system calls of a replacement, in order: those on the new file, and then those on the folder.
 REPLACES = [(name, "state.new") for name in ("openat", "write", "fsync", "close", "rename")] + [(name, "") for name in ("openat", "fsync", "close")]
 
@@ -248,11 +319,11 @@ def killed_in_a_replacement():
 
 
 def chaos(dice):
-    """A server that takes its time, refuses items with 429 and loses replies."""
+    """A server that takes its time, refuses items, some of them for good, and loses replies."""
     faults = ("drop before", "drop after", "half", 429, 503)
     return Noting(
         plan=lambda number: dice.choice(faults) if dice.random() < 0.1 else None,
-        refuse=lambda meta: 429 if dice.random() < 0.02 else None,
+        refuse=lambda meta: 429 if dice.random() < 0.02 else 400 if dice.random() < 0.005 else None,
         delay=lambda: dice.uniform(0.05, 0.2),
     )
 
@@ -262,44 +333,121 @@ def outages(server, dice, ended):
         server.rest(dice.uniform(0.1, 0.5))
 
 
+# What was seen of a run that was killed: its states, from the first that it wrote to the one that it left, whether it wrote as many as it
+# was to write, when it wrote the last one, and how it ended.
+Life = collections.namedtuple("Life", "states wrote written status")
+
+
+def next_state(folder, old):
+    """Waits until there is another state than this one, and returns it."""
+    end = time.monotonic() + 30
+    while state_of(folder) == old and time.monotonic() < end:
+        time.sleep(0.01)
+    return state_of(folder)
+
+
+def lived(folder, words, writes, seconds):
+    """Starts a run, and kills it this many seconds after it has written its state this often since its start."""
+    states = [state_of(folder)]
+    running = start(*words)
+    for _ in range(1 + writes):
+        states.append(next_state(folder, states[-1]))
+    wrote = all(old != new for old, new in zip(states, states[1:]))
+    try:
+        running.wait(seconds)
+    except subprocess.TimeoutExpired:
+        running.send_signal(signal.SIGKILL)
+    running.communicate()
+    return Life([*states[1:], state_of(folder)], wrote, os.path.getmtime(os.path.join(folder, "state")), running.returncode)
+
+
 def killed():
-    """However often a run is killed, the same command ends with every operation applied or reported, in order, and what was settled is
-    not sent again but for the last second."""
+    """However often a run is killed, the same command ends with every operation applied or reported, in order. No mark goes back, and what was
+    settled is not sent again but for the last second, and for what follows an operation that was not."""
     if FEWER:
         leave("40 of 50 kills of a run with a state, over 20,000 operations")
     with tempfile.TemporaryDirectory() as folder:
-        dice, ended = random.Random(53), threading.Event()
+        dice, kills, ended = random.Random(53), random.Random(53), threading.Event()
         producers = [operations(p, COUNT // 2, 40) for p in range(2)]
         files = [written(folder, p, ops) for p, ops in enumerate(producers)]
         server = chaos(dice)
         troubles = threading.Thread(target=outages, args=(server, dice, ended))
         troubles.start()
-        begins, kills, words = {}, 0, (server.port, folder, files, "--lanes", "2", "--count", "50", "--linger", "0", "--attempts", "32")
-        for _ in range(KILLS):
-            running = start(*words)
-            wait_until(lambda: state_of(folder) and state_of(folder)["epoch"] not in begins)
-            state = state_of(folder)
-            begins[state["epoch"]] = [it["count"] for it in state["inputs"]]
-            try:
-                running.wait(dice.uniform(0, 2.6))
-                break
-            except subprocess.TimeoutExpired:
-                kills += 1
-            running.send_signal(signal.SIGKILL)
-            running.communicate()
+        words = (server.port, folder, files, "--lanes", "2", "--count", "50", "--linger", "0", "--attempts", "32")
+        lives = [lived(folder, words, kills.choice((0, 0, 1, 1, 2)), kills.uniform(0, 1.1)) for _ in range(KILLS)]
+        server.delay = None
         status, out, err = finish(*words)
         ended.set()
         troubles.join()
         check("the last run ends", status in (0, 5) and COUNTS.search(out), (status, out[-200:], err))
-        check("it was killed often", kills >= min(KILLS, 20), (kills, begins))
-        check("each was resumed", sorted(begins.values()) == list(begins.values()) and max(begins.values()) > [COUNT // 8] * 2, begins)
+        check("each kill hits a run", [life.status for life in lives] == [-signal.SIGKILL] * KILLS, [life.status for life in lives])
+        check("each run writes its state while it works", all(life.wrote for life in lives), [life.wrote for life in lives])
+        judge_marks(folder, lives)
         with open(os.path.join(folder, "report")) as report:
-            named = {(it["producer"], it["number"]) for it in map(json.loads, report)}
-        judge(server, producers, named)
-        again = [(epoch, it) for epoch, sent in server.sent.items() for it in sent if epoch in begins and it[1] < begins[epoch][it[0]]]
-        check("nothing settled is sent again", not again, again[:5])
+            named = {(it["epoch"], it["producer"], it["number"]) for it in map(json.loads, report)}
+        judge_sends(server, producers, lives, named)
+        judge(server, producers, {it[1:] for it in named})
         check("everything is settled", marks_of(folder) == [(os.path.getsize(path), lines_of(ops), len(ops)) for path, ops in zip(files, producers)], state_of(folder))
         server.close()
+
+
+def judge_marks(folder, lives):
+    """Each run goes on where the one before was left, and no mark of any input ever goes back."""
+    goes_on = [(old.states[-1], new.states[0]) for old, new in zip(lives, lives[1:])]
+    wrong = [(old, new) for old, new in goes_on if new != {**old, "epoch": old["epoch"] + 1}]
+    check("each goes on where the one before was left", not wrong, wrong[:2])
+    states = [*(state for life in lives for state in life.states), state_of(folder)]
+    back = [(old, new) for old, new in zip(states, states[1:]) if goes_back(old, new)]
+    check("no mark goes back", not back, back[:2])
+    check("each moves on", all(it["count"] > COUNT // 16 for it in lives[-1].states[0]["inputs"]), lives[-1].states[0])
+
+
+def goes_back(old, new):
+    """Whether any part of the mark of any input has become less."""
+    return any(after[it] < before[it] for before, after in zip(old["inputs"], new["inputs"]) for it in ("offset", "line", "count"))
+
+
+def numbered(keys, producers, counts):
+    """Yields each of the writes of a run that began after so many operations of each producer, with its producer and its number from 0, or None
+    if there is no such operation. The versions of a document ascend in the order of its operations."""
+    left = collections.defaultdict(collections.deque)
+    for producer, (ops, count) in enumerate(zip(producers, counts)):
+        for number in range(count, len(ops)):
+            left[ops[number][0]].append((producer, number))
+    for key in sorted(keys, key=lambda it: it[2]):
+        yield key, left[key[1]].popleft() if left[key[1]] else None
+
+
+def settled_by(server, sent, counts, latest, reported):
+    """Returns of each producer the first operation that was not settled by then, in a run that began after so many and sent these. Settled are
+    those of which it had read an answer that says so, and which are reported if they were refused."""
+    done = set()
+    for key, place in sent:
+        when, status = server.read.get(key, (latest + 1, None))
+        if when <= latest and (status != 400 or place in reported):
+            done.add(place)
+    return [next(number for number in itertools.count(count) if (producer, number) not in done) for producer, count in enumerate(counts)]
+
+
+def judge_sends(server, producers, lives, named):
+    """Each run sends the operations of each document from its mark on, and none that was settled in one before it, but for the last second:
+    `SLACK` before that one wrote its state for the last time, which was little more than a second before it was killed."""
+    keys, floors, settled, strays, moved = collections.defaultdict(list), {}, [0] * len(producers), [], 0
+    for key in server.told:
+        keys[epoch_of(key)].append(key)
+    for life in lives:
+        epoch, counts = life.states[0]["epoch"], [it["count"] for it in life.states[0]["inputs"]]
+        floors[epoch] = settled
+        sent = list(numbered(keys[epoch], producers, counts))
+        strays += [(key, place) for key, place in sent if place is None or server.sent.get(key, place[1]) != place[1]]
+        reported = {(producer, number - 1) for it, producer, number in named if it == epoch}
+        now = settled_by(server, sent, counts, life.written - SLACK, reported)
+        settled, moved = list(map(max, settled, now)), moved + sum(now) - sum(counts)
+    later = [(key, number, floors.get(epoch_of(key), settled)[int(key[1].split("-")[0])]) for key, number in server.sent.items()]
+    again = [it for it in later if it[1] < it[2]]
+    check("each run sends what follows its marks", not strays, strays[:3])
+    check("nothing settled is sent again", not again, again[:5])
+    check("enough was settled for that", moved > COUNT // 16, moved)
 
 
 def judge(server, producers, named):
@@ -446,14 +594,31 @@ def by_its_unit():
         server.close()
 
 
+def takes_nothing(name, server, folder, files):
+    """A run that begins while the file is there that ends it takes nothing from its files: nothing is sent, and the marks stay."""
+    until, wanted = os.path.join(folder, "until"), b"applied 0 already 0 reported 0\n"
+    marks, requests, epoch = marks_of(folder) or [(0, 0, 0)], server.requests, (state_of(folder) or {"epoch": 0})["epoch"]
+    says = b"".join(b"%s: goes on after %d operations, at line %d\n" % (path.encode(), count, line + 1) for path, (_, line, count) in zip(files, marks) if count)
+    status, out, err = finish(server.port, folder, files, "--until", until)
+    check("%s: what it says" % name, (status, err) == (0, says + b"stopped: --until\n"), (status, out, err))
+    check("%s: its epoch" % name, state_of(folder)["epoch"] == epoch + 1, (state_of(folder), epoch))
+    check("%s: nothing is taken" % name, out == wanted and server.requests == requests and marks_of(folder) == marks, (out, server.requests - requests, state_of(folder)))
+
+
 def until_there():
     """A file that is there when the run begins ends it at once."""
     with tempfile.TemporaryDirectory() as folder:
-        files, server, until = [written(folder, 0, operations(0, 5, 5))], Server(), os.path.join(folder, "until")
+        ops, server, until = operations(0, 1_000, 100), Server(), os.path.join(folder, "until")
+        files = [written(folder, 0, ops)]
         add(until, "")
+        takes_nothing("a file that is there", server, folder, files)
+        os.remove(until)
         status, out, err = finish(server.port, folder, files, "--until", until)
-        check("a file that is there", (status, err) in ((0, b"stopped: --until\n"), (0, b"")), (status, out, err))
+        check("and again without it", status == 0 and marks_of(folder) == [(os.path.getsize(files[0]), lines_of(ops), 1_000)] and b"stopped" not in err, (status, out, err))
+        add(files[0], open(files[0]).read())
+        add(until, "")
+        takes_nothing("a file that is there, from a mark on", server, folder, files)
         server.close()
 
 
-GROUPS = (from_run_to_run, refused, names_beside, two_at_once, replaced, killed_in_a_replacement, until_idle, until_busy, by_its_unit, until_there, killed)
+GROUPS = (from_run_to_run, refused, names_beside, long_paths, two_at_once, replaced, once_a_second, killed_in_a_replacement, until_idle, until_busy, by_its_unit, until_there, killed)

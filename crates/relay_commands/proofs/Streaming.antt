@@ -21,7 +21,7 @@ use Rattle.relay_commands.proofs.Writing.{writes_all, writes_part}
 pub reading-start : (left : Option (List ℕ)) (failed : ℕ) (default : Option (List ℕ)) (p : Parsing) → p ≡ start default → reading left failed p ≡ fresh left failed default
 reading-start left failed default p e =
     ap (reading left failed) e
-    ∙ ap (λ (a : Option (List ℕ)). record { ahead = a; held = []; count = 0; line = 0; phase = phase.Open; default = default; failed = failed }) (prepend_nothing left)
+    ∙ ap (λ (a : Option (List ℕ)). record { ahead = a; held = []; count = 0; used = 0; line = 0; phase = phase.Open; default = default; failed = failed }) (prepend_nothing left)
 
 take-all : (xs : List ℕ) → xs ≡ take (length xs) xs
 take-all xs = grind (arith, common_steps)

@@ -1,20 +1,12 @@
 -- What a producer's thread and a lane tell, step by step.
-use Rattle.std.proofs.Common.{◌≡◌, ◌≤◌, List, [], ◌++◌, length, length-append, Some, sym, ap, subst, ⊎_elim, inl, inr, arith}
+use Rattle.std.proofs.Common.{◌≡◌, List, [], ◌++◌, Some, sym, ap, subst, ⊎_elim, inl, inr}
 use Rattle.std.specs.Prelude.{map}
 use Rattle.relay_action.specs.declared.operation.OpName.{OpName}
 use Rattle.relay_results.specs.Words.{Mem}
 use Rattle.relay_results.proofs.Lists.{Mem-left, Mem-right, Mem-cases}
-use Rattle.relay_resume.specs.Lines.{AreOf, Ending}
 use Rattle.relay_keeping.specs.declared.told.Told.{Told}
 use Rattle.relay_keeping.specs.Histories.{names_in}
 use Rattle.relay_keeping.specs.Tellers.{LaneState, MaySay, TellsOnly, names_of}
-
--- nothing was passed of an input of which nothing was read
-pub none_passed : (e : Ending) → AreOf [] e → e.passed ≤ 0
-none_passed e a =
-    let p = a.passed in
-    let l : 0 ≡ length (a.done ++ e.ahead) = ap length a.ends in
-    let m = length-append a.done e.ahead in omega (arith, p, l, m)
 
 -- an end by which nothing was told told no names
 pub no_names : (told : List Told) → told ≡ [] → names_in (map Some told) ≡ []

@@ -5,8 +5,6 @@ use Rattle.relay_results.specs.Words.{Mem}
 use Rattle.relay_core.specs.declared.success.Success.{Success}
 use Rattle.relay_resume.specs.declared.mark.Mark.{Mark}
 use Rattle.relay_resume.specs.declared.mark.Place.{Place}
-use Rattle.relay_resume.specs.Courses.{place_after}
-use Rattle.relay_resume.specs.Lines.{AreOf, Ending}
 use Rattle.relay_receipts.specs.Ends.{Channel, TellEnd, fresh}
 use Rattle.relay_keeping.specs.declared.told.Told.{Told}
 use Rattle.relay_keeping.specs.Histories.{names_in, places_in}
@@ -23,12 +21,11 @@ seat (Some e) = Some (e.channel, e.lane)
 
 -- ---- producers
 
--- the end by which a producer's thread tells, if anybody keeps marks; where its input is read from; where the lines of
--- what was read end; the places that it has not sent yet; and whether it has told all that it was to tell
+-- the end by which a producer's thread tells, if anybody keeps marks; where its input is read from; the places that it has
+-- not sent yet; and whether it has told all that it was to tell
 pub record InputState : Type 0 where
   pub end : Option (TellEnd Told)
   pub start : Mark
-  pub ends : Ending
   pub batch : List Place
   pub is_whole : Bool
 
@@ -45,10 +42,9 @@ abbrev pub AddsPlace : Bool → Place → List Place → List Place → Type 0
 AddsPlace true place old new = new ≡ old ++ place ∷ []
 AddsPlace false place old new = (new ≡ old) ⊎ (new ≡ old ++ place ∷ [])
 
--- The place after the line with this number, of what was read, was added to the places; after a failure none is any more.
-pub record PutsLine (line : ℕ) (old new : InputState) : Type 0 where
-  pub adds : old.is_whole ≡ true → (text : List ℕ) → AreOf text old.ends → AddsPlace new.is_whole (place_after old.start line text) (places_of old) (places_of new)
-  pub ends : new.is_whole ≡ true → (text : List ℕ) → AreOf text old.ends → AreOf text new.ends
+-- This place was added to the places; after a failure none is any more.
+pub record PutsPlace (place : Place) (old new : InputState) : Type 0 where
+  pub adds : old.is_whole ≡ true → AddsPlace new.is_whole place (places_of old) (places_of new)
   pub stays : old.is_whole ≡ false → (places_of new ≡ places_of old) × (new.is_whole ≡ false)
 
 -- ---- lanes
@@ -96,7 +92,6 @@ pub record IsNewInput (channel : Channel Told) (producer : ℕ) (mark : Mark) (v
   pub start : v.start ≡ mark
   pub batch : v.batch ≡ []
   pub whole : v.is_whole ≡ true
-  pub ends : AreOf [] v.ends
 
 -- those of the producers from this one on, whose inputs are read from these marks on
 abbrev pub AreNewInputs : Channel Told → ℕ → List Mark → List InputState → Type 0

@@ -18,7 +18,6 @@ use relay_resume::Mark;
 use std::alloc::{AllocError, Global};
 use std::marker::Model;
 use std::sync::Wait;
-use std::time::{Clock, Duration};
 
 /// The keeper of the marks of a run: it takes what the threads tell, and knows before which place of
 /// each input every operation is settled. Contracts see its channel, what it took, and the marks that
@@ -79,22 +78,6 @@ impl MarkKeeper {
         ensures gone { IfErr result (λ _. self.new ≡ self.old) }
     {
         match self.take.try_take(rt)? {
-            Some(notice) => {
-                self.is_whole = follow_if(self.is_whole, &mut self.inputs, notice);
-                Ok(true)
-            }
-            None => Ok(false),
-        }
-    }
-
-    /// Takes the first notice, and follows it. It waits for at most `limit` while nothing is queued.
-    /// Returns whether it took one. No contract says how long it waits. `Gone` has the same meaning as
-    /// in [`Self::try_follow`].
-    pub fn follow_within<R: Wait + Clock>(&mut self, rt: &R, limit: Duration) -> Result<bool, Gone>
-        ensures took { IfOk result (λ took. TakesOne took self.old self.new) }
-        ensures gone { IfErr result (λ _. self.new ≡ self.old) }
-    {
-        match self.take.take_within(rt, limit)? {
             Some(notice) => {
                 self.is_whole = follow_if(self.is_whole, &mut self.inputs, notice);
                 Ok(true)

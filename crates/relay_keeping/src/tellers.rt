@@ -1,10 +1,8 @@
 //! What the thread of a producer and a lane tell.
-ghost use Rattle.std.specs.Prelude.{◌≡◌, ◌≤◌, ◌<◌, ◌^◌, ℕ, List, [], ◌∷◌, ◌++◌, length, map, IfOk};
+ghost use Rattle.std.specs.Prelude.{◌≡◌, ◌≢◌, ◌↔◌, [], ◌∷◌, ◌++◌, map, IfOk, IsTrue};
 ghost use Rattle.std.specs.Prelude.{Some, None, true};
-ghost use Rattle.relay_resume.specs.Courses.{place_after};
-ghost use Rattle.relay_resume.specs.Lines.{AreOf};
 ghost use Rattle.relay_keeping.specs.Histories.{names_in, places_in};
-ghost use Rattle.relay_keeping.specs.Tellers.{MaySay, MayTell, PutsLine, SameInput, TellsOnly};
+ghost use Rattle.relay_keeping.specs.Tellers.{MaySay, MayTell, PutsPlace, SameInput, TellsOnly};
 ghost use Rattle.relay_keeping.specs.Tellers.{after_report, name_of, places_of};
 ghost use Rattle.relay_keeping.specs.Tellers.{reported_names, said_at, seat};
 
@@ -13,7 +11,7 @@ use http_server::Log;
 use relay_action::OpName;
 use relay_core::Success;
 use relay_receipts::LaneTell;
-use relay_resume::{LineEnds, Mark, Place};
+use relay_resume::{Mark, Place};
 use std::alloc::{AllocError, Global};
 use std::marker::Model;
 use std::mem;
@@ -24,8 +22,7 @@ use std::sync::Wait;
 const BATCH: usize = 64;
 
 /// What the thread of a producer tells: where the lines of each operation end that it puts. Contracts
-/// see its end of the channel, where its input is read from and where its lines end, and the places
-/// that it has not sent yet.
+/// see its end of the channel, where its input is read from, and the places that it has not sent yet.
 ///
 /// If nobody keeps marks it has no end, and does nothing.
 #[derive(Drop)]
@@ -33,10 +30,6 @@ pub struct InputTelling {
     alloc: Global,
     end: Option<LaneTell<Told>>,
     start: Mark,
-    // Where the lines of what was read end.
-    ends: LineEnds,
-    // The last line that was asked for.
-    line: u64,
     // The places that were not sent yet.
     batch: Vec<Place>,
     // Whether all was told that was to be told.
@@ -44,7 +37,7 @@ pub struct InputTelling {
 }
 
 impl Model for InputTelling {
-    ghost use Rattle.std.specs.Prelude.{◌≡◌, ◌≤◌, []};
+    ghost use Rattle.std.specs.Prelude.{◌≡◌, []};
     ghost use Rattle.relay_keeping.specs.Histories.{names_in};
     ghost use Rattle.relay_keeping.specs.Tellers.{InputState, said_at};
 
@@ -53,12 +46,11 @@ impl Model for InputTelling {
     ghost view = { λ t. record {
       end = t.end;
       start = t.start;
-      ends = t.ends;
       batch = t.batch.items;
       is_whole = t.is_whole;
     } };
 
-    ghost invariant = { λ t. (names_in (said_at t.end) ≡ []) × (t.ends.passed ≤ t.line) };
+    ghost invariant = { λ t. names_in (said_at t.end) ≡ [] };
 }
 
 // Sends the places that were not sent yet, if there are any. Returns whether they were sent.
@@ -90,20 +82,6 @@ fn send<R: Wait>(
     }
 }
 
-// The place after the line with this number, of what was read.
-fn place_at(start: &Mark, ends: &mut LineEnds, line: u64) -> Place
-    requires { ends.old.passed ≤ line }
-    ensures place { (text : List ℕ) → AreOf text ends.old
-        → result ≡ place_after start.now line text }
-    ensures ends { (text : List ℕ) → AreOf text ends.old → AreOf text ends.new }
-    ensures passed { ends.new.passed ≤ line }
-{
-    Place {
-        offset: start.offset.saturating_add(ends.pass(line)),
-        line: start.line.saturating_add(line),
-    }
-}
-
 impl InputTelling {
     /// It tells by this end, by which nothing was told, of an input that is read from this mark on. It
     /// does not allocate.
@@ -111,14 +89,12 @@ impl InputTelling {
         requires { end.told ≡ [] }
         ensures end { result.end ≡ Some end }
         ensures start { result.start ≡ start }
-        ensures empty { (result.batch ≡ []) × (result.is_whole ≡ true) × AreOf [] result.ends }
+        ensures empty { (result.batch ≡ []) × (result.is_whole ≡ true) }
     {
         InputTelling {
             alloc,
             end: Some(end),
             start,
-            ends: LineEnds::new(alloc),
-            line: 0,
             batch: Vec::new(alloc),
             is_whole: true,
         }
@@ -132,65 +108,51 @@ impl InputTelling {
             alloc,
             end: None,
             start,
-            ends: LineEnds::new(alloc),
-            line: 0,
             batch: Vec::new(alloc),
             is_whole: false,
         }
     }
 
-    /// Notes that these bytes were read next. Before that it sends the places that were not sent yet,
-    /// since the thread may wait for its input after that.
-    pub fn read<R: Wait>(&mut self, rt: &R, piece: &[u8])
-        ensures places { places_of self.new ≡ places_of self.old }
+    // Adds a place to those that are to be sent.
+    fn add(&mut self, place: Place)
+        ensures adds { PutsPlace place self.old self.new }
         ensures same { SameInput self.old self.new }
-        ensures whole { self.new.is_whole ≡ true → self.old.is_whole ≡ true }
-        ensures read { self.new.is_whole ≡ true → (text : List ℕ)
-            → length (text ++ piece.now) < 2 ^ 64 → AreOf text self.old.ends
-            → AreOf (text ++ piece.now) self.new.ends }
     {
-        if !self.is_whole {
-            return;
+        if self.is_whole {
+            self.is_whole = self.batch.push(place).is_ok();
         }
-        let sent = send(rt, self.alloc, &mut self.end, &mut self.batch);
-        self.is_whole = self.ends.read(piece).is_ok() && sent;
     }
 
-    // Adds the place after the line with this number, of what was read, to those that are to be sent.
-    fn add(&mut self, line: u64)
-        ensures adds { PutsLine line self.old self.new }
-        ensures same { SameInput self.old self.new }
+    /// The mark from which the input is read on.
+    pub fn start(&self) -> Mark
+        ensures { result ≡ self.now.start }
     {
-        if !self.is_whole {
-            return;
-        }
-        if line < self.line {
-            self.is_whole = false;
-            return;
-        }
-        let place = place_at(&self.start, &mut self.ends, line);
-        self.line = line;
-        self.is_whole = self.batch.push(place).is_ok();
+        self.start
     }
 
-    /// Tells that the producer puts the operation next whose last line has this number, from 1, of
-    /// those that were read. After a failed allocation, or once the keeper is gone, nothing more is
-    /// told; nor if the line is one before that of an earlier call.
-    pub fn put<R: Wait>(&mut self, rt: &R, line: u64)
-        ensures puts { PutsLine line self.old self.new }
+    /// Tells that the producer puts the operation next that ends at this place. After a failed
+    /// allocation, or once the keeper is gone, nothing more is told.
+    pub fn put<R: Wait>(&mut self, rt: &R, place: Place)
+        ensures puts { PutsPlace place self.old self.new }
         ensures same { SameInput self.old self.new }
     {
-        self.add(line);
+        self.add(place);
         if self.batch.len() >= BATCH {
             self.flush(rt);
         }
+    }
+
+    /// Whether there are places that were not sent yet: a thread that may wait sends them before.
+    pub fn has_unsent(&self) -> bool
+        ensures { IsTrue result ↔ (self.now.batch ≢ []) }
+    {
+        !self.batch.is_empty()
     }
 
     /// Sends the places that were not sent yet.
     pub fn flush<R: Wait>(&mut self, rt: &R)
         ensures places { places_of self.new ≡ places_of self.old }
         ensures same { SameInput self.old self.new }
-        ensures ends { self.new.ends ≡ self.old.ends }
         ensures whole { self.new.is_whole ≡ true → self.old.is_whole ≡ true }
     {
         self.is_whole = send(rt, self.alloc, &mut self.end, &mut self.batch) && self.is_whole;

@@ -2,7 +2,7 @@
 use relay_action::OpName;
 use relay_core::Success;
 use relay_keeping::{InputTelling, LaneTelling, MarkEnds, MarkKeeper, keep_marks};
-use relay_resume::Mark;
+use relay_resume::{Mark, Place};
 use std::process::Abort;
 use std::sync::Wait;
 use std::thread;
@@ -15,16 +15,18 @@ pub const START: Mark = Mark {
     count: 2,
 };
 
-/// Each operation is one line of four bytes.
-pub const LINE: &[u8] = b"abc\n";
-
-/// The mark after so many operations.
+/// The mark after so many operations, each of which is one line of four bytes.
 pub fn after(count: u64) -> Mark {
     Mark {
         offset: count.saturating_mul(4).saturating_add(START.offset),
         line: count.saturating_add(START.line),
         count: count.saturating_add(START.count),
     }
+}
+
+/// The place after so many operations.
+pub fn place_after(count: u64) -> Place {
+    START.place_behind(count, count.saturating_mul(4))
 }
 
 pub fn name_of(producer: u32, number: u64) -> OpName {
@@ -60,9 +62,7 @@ pub fn follow<R: Wait>(rt: &R, keeper: &mut MarkKeeper) {
 // Something that is told, or a mark after all that was told.
 #[derive(Clone, Copy)]
 enum Step {
-    // This producer reads a line.
-    Read(usize),
-    // This producer puts the operation of this line.
+    // This producer puts the operation with this number.
     Put(usize, u64),
     // This producer sends what it has put.
     Flush(usize),
@@ -77,7 +77,6 @@ enum Step {
 const STEPS: &[Step] = &[
     Step::Mark(0, 0),
     Step::Mark(1, 0),
-    Step::Read(0),
     Step::Put(0, 1),
     // It is settled before its place is sent.
     Step::Applied(1, 0, 1),
@@ -85,10 +84,7 @@ const STEPS: &[Step] = &[
     Step::Flush(0),
     Step::Mark(0, 1),
     Step::Mark(1, 0),
-    // What was put is sent with the next read.
-    Step::Read(1),
     Step::Put(1, 1),
-    Step::Read(1),
     Step::Put(1, 2),
     Step::Flush(1),
     Step::Mark(1, 0),
@@ -119,8 +115,7 @@ pub fn lane_at<'a>(rt: &impl Abort, ends: &'a mut MarkEnds, lane: usize) -> &'a 
 
 fn is_right<R: Wait + Abort>(rt: &R, ends: &mut MarkEnds, step: Step) -> bool {
     match step {
-        Step::Read(producer) => input_at(rt, ends, producer).read(rt, LINE),
-        Step::Put(producer, line) => input_at(rt, ends, producer).put(rt, line),
+        Step::Put(producer, number) => input_at(rt, ends, producer).put(rt, place_after(number)),
         Step::Flush(producer) => input_at(rt, ends, producer).flush(rt),
         Step::Applied(lane, producer, number) => {
             lane_at(rt, ends, lane).applied(rt, &[success_of(producer, number)]);
@@ -147,19 +142,14 @@ fn each_step(rt: HostRuntime) {
 
 const COUNT: u64 = 2_000;
 
-const PIECE: u64 = 100;
-
-// Reads lines in pieces, and puts the operation of each.
+// Puts operations, and sends what is left of them.
 fn put_all<R: Wait>(rt: &R, input: &mut InputTelling) {
-    for first in 0..COUNT / PIECE {
-        for _ in 0..PIECE {
-            input.read(rt, LINE);
-        }
-        for line in 0..PIECE {
-            input.put(rt, first * PIECE + line + 1);
-        }
+    for number in 0..COUNT {
+        input.put(rt, place_after(number + 1));
     }
-    input.flush(rt);
+    if input.has_unsent() {
+        input.flush(rt);
+    }
 }
 
 // Tells of each second operation of both producers, of the odd numbers as applied, and of the even
@@ -181,11 +171,10 @@ fn settle_all<R: Wait>(rt: &R, lane: &mut LaneTelling, is_odd: bool) {
 // Takes what is told until all ends are dropped.
 fn follow_to_the_end<R: Wait + Clock>(rt: &R, keeper: &mut MarkKeeper) {
     for _ in rt.forever() {
-        if keeper
-            .follow_within(rt, Duration::from_millis(100))
-            .is_err()
-        {
-            return;
+        match keeper.try_follow(rt) {
+            Ok(true) => {}
+            Ok(false) => thread::sleep(rt, Duration::from_millis(1)),
+            Err(_) => return,
         }
     }
 }
@@ -238,7 +227,7 @@ fn four_threads(rt: HostRuntime) {
 #[test]
 fn dropped_producer(rt: HostRuntime) {
     let mut ends = new_ends(&rt);
-    for step in [Step::Read(1), Step::Put(1, 1), Step::Applied(0, 1, 1)] {
+    for step in [Step::Put(1, 1), Step::Applied(0, 1, 1)] {
         assert!(rt; is_right(&rt, &mut ends, step));
     }
     drop(ends.inputs.pop());

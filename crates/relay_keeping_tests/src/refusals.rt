@@ -1,12 +1,11 @@
 //! A keeper of marks and what it is told, with any one of the allocations refused (`make refusals`):
 //! a channel is made by a second call, and what could not be told, or taken, moves no mark.
-use crate::marks::{LINE, START, after, follow, input_at, lane_at, name_of, success_of};
+use crate::marks::{START, after, follow, input_at, lane_at, name_of, place_after, success_of};
 use relay_keeping::{InputTelling, MarkEnds, keep_marks};
 use relay_resume::Mark;
 use std::alloc::{AllocError, Global};
 use std::process::Abort;
 use std::sync::Wait;
-use std::time::{Clock, Duration};
 
 // The number of operations of the first input.
 const COUNT: u64 = 3;
@@ -42,9 +41,8 @@ fn refused_keeper(rt: HostRuntime) {
 }
 
 fn put_all<R: Wait>(rt: &R, input: &mut InputTelling) {
-    for line in 0..COUNT {
-        input.read(rt, LINE);
-        input.put(rt, line + 1);
+    for number in 0..COUNT {
+        input.put(rt, place_after(number + 1));
     }
     input.flush(rt);
 }
@@ -58,15 +56,10 @@ fn tell<R: Wait + Abort>(rt: &R, ends: &mut MarkEnds) {
 }
 
 // The mark of the first input, once all was told and taken. `None`: the keeper could not follow.
-fn mark_of<R: Wait + Clock + Abort>(rt: &R, ends: &mut MarkEnds) -> Option<Mark> {
+fn mark_of<R: Wait + Abort>(rt: &R, ends: &mut MarkEnds) -> Option<Mark> {
     tell(rt, ends);
-    let took = ends.keeper.follow_within(rt, Duration::from_millis(1));
     follow(rt, &mut ends.keeper);
-    if took.is_ok() {
-        ends.keeper.mark(0)
-    } else {
-        None
-    }
+    ends.keeper.mark(0)
 }
 
 /// What came of it.
@@ -95,7 +88,7 @@ fn came_of(mark: Option<Mark>) -> Came {
     }
 }
 
-fn come<R: Wait + Clock + Abort>(rt: &R, alloc: Global) -> Came {
+fn come<R: Wait + Abort>(rt: &R, alloc: Global) -> Came {
     match made(alloc) {
         Some(mut ends) => came_of(mark_of(rt, &mut ends)),
         None => Came::Refused,
@@ -104,7 +97,7 @@ fn come<R: Wait + Clock + Abort>(rt: &R, alloc: Global) -> Came {
 
 // Whether every operation is before the mark, by a second channel if an allocation of the first was
 // refused.
-fn passes_all<R: Wait + Clock + Abort>(rt: &R, alloc: Global) -> bool {
+fn passes_all<R: Wait + Abort>(rt: &R, alloc: Global) -> bool {
     match come(rt, alloc) {
         Came::Whole => true,
         Came::Refused => come(rt, alloc) == Came::Whole,

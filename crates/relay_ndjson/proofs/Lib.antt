@@ -2,6 +2,7 @@ pub mod Plain
 pub mod Parts
 pub mod Appended
 pub mod ReadsBack
+mod Using
 pub mod UsualLines
 pub mod Pieces
 pub mod Asking

@@ -1,6 +1,6 @@
 -- The producer grammar over a stream: the operations at its front, and what breaks it. Action lines are those of the
 -- OpenSearch bulk API: an index action is followed by its source on the next line.
-use Rattle.std.specs.Prelude.{◌≡◌, ◌≢◌, ℕ, ◌+◌, ◌≤◌, ◌⊎◌, min, List, [], Option, None, Some, Result, Ok, Err, if◌then◌else◌}
+use Rattle.std.specs.Prelude.{◌≡◌, ◌≢◌, ℕ, ◌+◌, ◌≤◌, ◌⊎◌, min, List, [], length, Option, None, Some, Result, Ok, Err, if◌then◌else◌}
 use Rattle.std.specs.Io.KnownBytes.{IsAtEnd, prepend_known}
 use Rattle.relay_action.specs.Streams.{most, one_more}
 use Rattle.relay_action.specs.Faults.{key_fault}
@@ -22,9 +22,13 @@ Operation = DocKey × Action
 abbrev pub blank_limit : ℕ
 blank_limit = 65536
 
--- a count of lines, which saturates
+-- a count of lines or of bytes, which saturates
 abbrev pub saturating_count : ℕ → ℕ
 saturating_count n = min n most
+
+-- so many bytes more were taken from the front; the number of all of them saturates
+abbrev pub UsesBytes : (before after : ℕ) (old new : Option (List ℕ)) → Type 0
+UsesBytes before after old new = (bytes : List ℕ) × (old ≡ prepend_known bytes new) × (after ≡ saturating_count (before + length bytes))
 
 -- ---- operations
 

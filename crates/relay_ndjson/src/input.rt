@@ -57,6 +57,13 @@ impl<'a, R: ByteIn> Input<'a, R> {
         self.parser.is_ready()
     }
 
+    /// How many bytes of the stream are before the end of the last operation, as [`Parser::used`].
+    pub fn used(&self) -> u64
+        ensures { result ≡ self.now.used }
+    {
+        self.parser.used()
+    }
+
     /// The line number of the last action line returned, 0 before the first. A fault does not
     /// change it.
     pub fn line(&self) -> u64

@@ -1,5 +1,5 @@
 //! The lines of a producer's input, and the operations on them.
-ghost use Rattle.std.specs.Prelude.{◌≡◌, ◌<◌, ◌≤◌, ◌↔◌, ◌∷◌, ◌++◌, ℕ, List, Option};
+ghost use Rattle.std.specs.Prelude.{◌≡◌, ◌+◌, ◌<◌, ◌≤◌, ◌↔◌, ◌∷◌, ◌++◌, ℕ, List, Option};
 ghost use Rattle.std.specs.Prelude.{[], true, false, OnOk, OnErr, IfOk, IfErr};
 ghost use Rattle.std.specs.Prelude.{IfSome, IfNone, IsTrue, length, slice_index};
 ghost use Rattle.std.specs.Bool.{OnTrue, OnFalse};
@@ -9,6 +9,7 @@ ghost use Rattle.relay_action.specs.Streams.{most};
 ghost use Rattle.relay_ndjson.specs.Lines.{IsUnbroken, IsRaw, IsPastLimit};
 ghost use Rattle.relay_ndjson.specs.Lines.{StopsInLine, line_limit, piece_limit};
 ghost use Rattle.relay_ndjson.specs.LineReading.{TakesBytes, end_bytes};
+ghost use Rattle.relay_ndjson.specs.Operations.{UsesBytes, saturating_count};
 ghost use Rattle.relay_ndjson.specs.Steps.{IsStart, IsAddFault, TakesPart, TakesLine};
 ghost use Rattle.relay_ndjson.specs.Steps.{EndsLine, PartHasBytes, LineHasBytes, failed_by};
 ghost use Rattle.relay_ndjson.specs.Reading.{HoldsTwoLines};
@@ -79,16 +80,19 @@ pub struct NumberedOperation {
     pub action: Action,
 }
 
-/// The lines of a stream: what was read ahead, the last line taken, the number of lines taken, and
-/// the scratch for reading action lines.
+/// The lines of a stream: what was read ahead, the last line taken, the number of lines taken and of
+/// their bytes, and the scratch for reading action lines.
 #[derive(Drop)]
 pub struct Lines {
     pub piece: Piece,
     pub text: Vec<u8>,
     pub end: LineEnd,
     pub count: u64,
+    // How many bytes the lines that were taken have, with their ends.
+    pub used: u64,
     pub scratch: Scratch,
     ghost in_range: { count ≤ most },
+    ghost used_in_range: { used ≤ most },
     ghost one_piece: { length piece ≤ piece_limit },
 }
 
@@ -104,12 +108,14 @@ impl Lines {
     pub fn new(alloc: Global) -> Lines
         ensures piece { result.piece ≡ [] }
         ensures count { result.count ≡ 0 }
+        ensures used { result.used ≡ 0 }
     {
         Lines {
             piece: Piece::new(alloc),
             text: Vec::new(alloc),
             end: LineEnd::Open,
             count: 0,
+            used: 0,
             scratch: Scratch::new(alloc),
         }
     }
@@ -124,6 +130,7 @@ impl Lines {
         ensures bytes { PartHasBytes self.old.text.items self.old.piece
             self.new.text.items self.new.piece self.new.end result }
         ensures count { self.new.count ≡ self.old.count }
+        ensures used { self.new.used ≡ self.old.used }
     {
         match memchr(b'\n', self.piece.held()) {
             Some(end) => {
@@ -152,6 +159,7 @@ impl Lines {
             self.new.text.items self.new.end result }
         ensures failed { R.failed reader.new ≡ failed_by result (R.failed reader.old) }
         ensures count { self.new.count ≡ self.old.count }
+        ensures used { self.new.used ≡ self.old.used }
     {
         self.text.clear();
         'pieces: loop {
@@ -166,6 +174,16 @@ impl Lines {
         }
     }
 
+    // How many bytes were taken with the last line.
+    fn used_after_line(&self) -> u64
+        ensures { result ≡ saturating_count (self.now.used
+            + length (self.now.text.items ++ end_bytes self.now.end)) }
+    {
+        let line = self.text.len() as u64;
+        let end = self.end.bytes().len() as u64;
+        self.used.saturating_add(line).saturating_add(end)
+    }
+
     /// Takes a line, if there is one.
     pub fn take_line<R: ByteIn>(&mut self, reader: &mut R) -> Result<bool, InputFault>
         ensures line { TakesNext (prepend_known self.old.piece (R.left reader.old))
@@ -178,6 +196,9 @@ impl Lines {
         ensures bytes { IfOk result (λ found. OnTrue found (TakesBytes
             (prepend_known self.old.piece (R.left reader.old))
             (prepend_known self.new.piece (R.left reader.new)) self.new.text.items self.new.end)) }
+        ensures used { IfOk result (λ found. OnTrue found (UsesBytes self.old.used self.new.used
+            (prepend_known self.old.piece (R.left reader.old))
+            (prepend_known self.new.piece (R.left reader.new)))) }
         ensures failed { R.failed reader.new ≡ failed_after result (R.failed reader.old) }
     {
         let number = self.count.saturating_add(1);
@@ -188,6 +209,7 @@ impl Lines {
             Line::Absent => Ok(false),
             Line::Ended | Line::Open => {
                 self.count = number;
+                self.used = self.used_after_line();
                 Ok(true)
             }
         }
@@ -201,6 +223,9 @@ impl Lines {
         ensures stop { IfErr result (λ e. (default : Option (List ℕ))
             → Stops default (position (R.left reader.old) self.old.piece self.old.count)
             (position (R.left reader.new) self.new.piece self.new.count) e) }
+        ensures used { IfOk result (λ found. OnTrue found (UsesBytes self.old.used self.new.used
+            (prepend_known self.old.piece (R.left reader.old))
+            (prepend_known self.new.piece (R.left reader.new)))) }
         ensures failed { R.failed reader.new ≡ failed_after result (R.failed reader.old) }
     {
         for blank in 0..BLANK_LIMIT + 1 {
@@ -233,6 +258,9 @@ impl Lines {
         ensures stop { IfErr result (Stops (bytes_given default_index.entry)
             (position (R.left reader.old) self.old.piece self.old.count)
             (position (R.left reader.new) self.new.piece self.new.count)) }
+        ensures used { IfOk result (λ asked. IfSome asked (λ _. UsesBytes self.old.used self.new.used
+            (prepend_known self.old.piece (R.left reader.old))
+            (prepend_known self.new.piece (R.left reader.new)))) }
         ensures failed { R.failed reader.new ≡ failed_after result (R.failed reader.old) }
     {
         let found = self.skip_blank(reader)?;
@@ -261,6 +289,9 @@ impl Lines {
         ensures stop { IfErr result (StopsInSource
             (position (R.left reader.old) self.old.piece self.old.count)
             (position (R.left reader.new) self.new.piece self.new.count)) }
+        ensures used { OnOk result (UsesBytes self.old.used self.new.used
+            (prepend_known self.old.piece (R.left reader.old))
+            (prepend_known self.new.piece (R.left reader.new))) }
         ensures failed { R.failed reader.new ≡ failed_after result (R.failed reader.old) }
     {
         let found = self.take_line(reader)?;
@@ -292,6 +323,9 @@ impl Lines {
         ensures stop { IfErr result (Stops (bytes_given default_index.entry)
             (position (R.left reader.old) self.old.piece self.old.count)
             (position (R.left reader.new) self.new.piece self.new.count)) }
+        ensures used { IfOk result (λ op. IfSome op (λ _. UsesBytes self.old.used self.new.used
+            (prepend_known self.old.piece (R.left reader.old))
+            (prepend_known self.new.piece (R.left reader.new)))) }
         ensures failed { R.failed reader.new ≡ failed_after result (R.failed reader.old) }
     {
         let Some((kind, key)) = self.take_action(alloc, reader, default_index)? else {

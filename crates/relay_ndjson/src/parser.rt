@@ -18,8 +18,8 @@ pub enum Phase {
     Failed(u64),
 }
 
-/// The state of reading a producer's input: what was read ahead, and the number of lines taken. It
-/// is [`Input`](crate::Input) without the stream, which the caller holds and passes to each call,
+/// The state of reading a producer's input: what was read ahead, and the number of lines taken and
+/// of their bytes. It is [`Input`](crate::Input) without the stream, which the caller holds and passes to each call,
 /// always the same one. It does not allocate before the first call of `next`, which allocates room
 /// for 64 KiB.
 #[derive(Drop)]
@@ -40,6 +40,7 @@ impl<'a> Model for Parser<'a> {
     ghost view = { λ p. record {
       held = p.lines.piece;
       count = p.lines.count;
+      used = p.lines.used;
       line = p.line;
       phase = p.phase;
       default = bytes_given p.default_index;
@@ -116,6 +117,14 @@ impl<'a> Parser<'a> {
         ensures { IsTrue result ↔ HoldsTwoLines self.now.held }
     {
         holds_two_lines(&self.lines.piece)
+    }
+
+    /// How many bytes the lines have that were taken: after an operation, those up to the end of its
+    /// last line, 0 before the first. It saturates at 2^64 - 1.
+    pub fn used(&self) -> u64
+        ensures { result ≡ self.now.used }
+    {
+        self.lines.used
     }
 
     /// The line number of the last action line returned, 0 before the first. A fault does not

@@ -1,21 +1,22 @@
 -- The mark after operations of an input, and what is read from it on.
-use Rattle.std.proofs.Common.{◌≡◌, ℕ, suc, ◌+◌, ◌-◌, ◌<◌, ◌≤◌, ◌^◌, ◌⊎◌, List, [], ◌∷◌, ◌++◌, length, drop, Option, None, Some, refl, ap, sym, ◌∙◌, subst, arith, inl, inr, append_assoc, append-nil, length-append, length-drop}
-use Rattle.std.proofs.lemmas.List.{append_cancel_right, drop-drop}
-use Rattle.relay_ndjson.specs.Operations.{Operation, line_count}
+use Rattle.std.proofs.Common.{◌≡◌, ℕ, suc, ◌+◌, ◌-◌, ◌<◌, ◌≤◌, ◌^◌, List, [], ◌∷◌, ◌++◌, length, drop, Option, None, Some, refl, ap, sym, ◌∙◌, subst, arith, append_assoc, append-nil, length-append, length-drop}
+use Rattle.std.proofs.lemmas.List.{drop-drop}
+use Rattle.relay_ndjson.specs.Operations.{Operation, UsesBytes, line_count}
+use Rattle.relay_ndjson.specs.Reading.{Reading, fresh}
+use Rattle.relay_words.specs.Taken.{TakesAll}
 use Rattle.relay_action.specs.declared.action.Action.{Action}
 use Rattle.relay_action.specs.declared.action.Action.TheVariants.{Index, Delete}
 use Rattle.relay_resume.specs.declared.mark.Mark.{Mark}
 use Rattle.relay_resume.specs.declared.mark.Place.{Place}
 use Rattle.relay_resume.specs.Contents.{Begins, End, Holds, after_lines, lines_on}
-use Rattle.relay_resume.specs.Courses.{place_after, saturating}
-use Rattle.relay_resume.specs.GoingOn.{ArePlaces, ComesAfter, HasLines, HistoriesComeAfter, HoldFromMarks, HoldWithMarks, LiesIn, MarksChain, MarksComeAfter, PlacesStay, ReadersHaveLines, text_from}
-use Rattle.relay_resume.specs.Lines.{line_ends, lines_length}
+use Rattle.relay_resume.specs.Places.{place_after, place_behind}
+use Rattle.relay_resume.specs.GoingOn.{ArePlaces, ComesAfter, HistoriesComeAfter, HoldFromMarks, HoldWithMarks, LiesIn, MarksChain, MarksComeAfter, ReadersKnowPlaces, text_from}
+use Rattle.relay_resume.specs.Lines.{lines_length}
 use Rattle.relay_resume.specs.Trails.{AreSettled, after, after_one}
 use Rattle.relay_resume.proofs.Holding.{begins_together, hold_the_others, hold_together, lines_are_first, one_count}
 use Rattle.relay_resume.proofs.Followed.{read_first}
-use Rattle.relay_resume.proofs.Lines.{ends_append, passed_length}
-use Rattle.relay_ndjson.proofs.Fronts.{nil_of, some_same}
-use Rattle.relay_resume.proofs.Skipping.{Skips, begins_skips}
+use Rattle.relay_ndjson.proofs.Fronts.{some_same}
+use Rattle.relay_resume.proofs.Skipping.{Skips, begins_skips, operation_shows}
 
 line_some : (a : Action) → 1 ≤ line_count a
 line_some (Index source) = omega arith
@@ -199,36 +200,37 @@ marks_chain default input start m last done later a b =
       lies = b.lies;
     }
 
--- ---- what was read by then
+-- ---- the places that a reader knows
 
-lines_stay : (count : ℕ) (seen text : List ℕ) → HasLines count seen text → lines_length count seen ≡ lines_length count text
-lines_stay count seen text h =
-    let whole = ap (lines_length count) h.parts in
-    elim h.ended [
-      | inl e ↦ sym (whole ∙ passed_length 0 count seen h.more e)
-      | inr e ↦ sym (whole ∙ ap (lines_length count) (ap (λ l. seen ++ l) e ∙ append-nil seen))
-    ]
+-- how many bytes the first lines of a text have, if this follows them
+pub lines_used : (count : ℕ) (text rest : List ℕ) → Skips count text rest → lines_length count text + length rest ≡ length text
+lines_used count text rest s =
+    let a : lines_length (count + 0) text ≡ lines_length count text = ap (λ k. lines_length k text) (let e : count + 0 ≡ count = omega arith in e) in
+    let b = s.lines 0 in
+    let size = ap length s.parts ∙ length-append s.bytes rest in
+    omega (arith, a, b, size)
 
-pub places_stay : PlacesStay
-places_stay start count seen text h = ap (λ (n : ℕ). record { offset = saturating (start.offset + n); line = saturating (start.line + count) }) (lines_stay count seen text h)
+-- the bytes that were used, and what is left of the text, are all of it
+pub used_more : (before after : ℕ) (text rest mid : List ℕ) → UsesBytes before after (Some rest) (Some mid) → before + length rest ≡ length text → length text < 2 ^ 64 → after + length mid ≡ length text
+used_more before after text rest mid u e low =
+    let size : length rest ≡ length u.0 + length mid = ap length (some_same rest (u.0 ++ mid) u.1) ∙ length-append u.0 mid in
+    let is = u.2 in
+    omega (arith, size, is, e, low)
 
-still_ended : (count : ℕ) (bytes held left rest : List ℕ) → rest ≡ held ++ left → (count ≤ length (line_ends 0 bytes)) ⊎ (rest ≡ []) → (count ≤ length (line_ends 0 (bytes ++ held))) ⊎ (left ≡ [])
-still_ended count bytes held left rest p (inl e) =
-    let all : length (line_ends 0 (bytes ++ held)) ≡ length (line_ends 0 bytes) + length (line_ends (0 + length bytes) held) = ap length (ends_append 0 bytes held) ∙ length-append (line_ends 0 bytes) (line_ends (0 + length bytes) held) in
-    inl (omega (arith, e, all))
-still_ended count bytes held left rest p (inr e) =
-    let none : length held + length left ≡ 0 = sym (length-append held left) ∙ ap length (sym p ∙ e) in
-    inr (nil_of left (omega (arith, none)))
+used_all : (text rest : List ℕ) (old new : Reading) (ops : List Operation) → old.ahead ≡ Some rest → old.used + length rest ≡ length text → length text < 2 ^ 64 → TakesAll old new ops
+    → (left : List ℕ) × (new.ahead ≡ Some left) × (new.used + length left ≡ length text)
+used_all text rest old new [] a e low t = (rest, ap (λ (r : Reading). r.ahead) t ∙ a, (let s : new.used ≡ old.used = ap (λ (r : Reading). r.used) t in omega (arith, s, e)))
+used_all text rest old new (op ∷ ops) a e low t =
+    let s = operation_shows old.default old.ahead t.1.ahead t.0 op (rest, a) t.2.lines in
+    let u = subst (λ (o : Option (List ℕ)). UsesBytes old.used t.1.used (Some rest) o) s.1 (subst (λ (o : Option (List ℕ)). UsesBytes old.used t.1.used o t.1.ahead) a t.2.used) in
+    used_all text s.0 t.1 new ops s.1 (used_more old.used t.1.used text rest s.0 u e low) low t.3
 
-pub readers_have_lines : ReadersHaveLines
-readers_have_lines default text seen held left failed new ops low t a p =
+pub readers_know_places : ReadersKnowPlaces
+readers_know_places default start text failed new ops low t =
     let r = read_first default text failed new ops low t in
     let s = begins_skips default text ops new.count r.rest r.begins in
-    let ahead : r.rest ≡ held ++ left = some_same r.rest (held ++ left) (sym r.ahead ∙ a) in
-    let whole : seen ++ left ≡ (s.bytes ++ held) ++ left = sym p ∙ (s.parts ∙ (ap (λ l. s.bytes ++ l) ahead ∙ sym (append_assoc s.bytes held left))) in
-    let same : seen ≡ s.bytes ++ held = append_cancel_right seen (s.bytes ++ held) left whole in
-    record {
-      more = left;
-      parts = p;
-      ended = subst (λ (l : List ℕ). (new.count ≤ length (line_ends 0 l)) ⊎ (left ≡ [])) (sym same) (still_ended new.count s.bytes held left r.rest ahead s.ended);
-    }
+    let u = used_all text text (fresh (Some text) failed default) new ops refl (omega arith) low t in
+    let same : length u.0 ≡ length r.rest = ap length (some_same u.0 r.rest (sym u.1 ∙ r.ahead)) in
+    let lines = lines_used new.count text r.rest s in
+    let used = u.2 in
+    ap (place_behind start new.count) (omega (arith, same, lines, used))

@@ -1,10 +1,10 @@
 -- The mark of a trail, and that a history has one.
-use Rattle.std.proofs.Common.{◌≡◌, ℕ, zero, suc, ◌+◌, ◌<◌, List, [], ◌∷◌, ◌++◌, length, get_or, drop, refl, sym, ap, ap₂, ◌∙◌, subst, arith}
+use Rattle.std.proofs.Common.{◌≡◌, ℕ, suc, ◌+◌, ◌<◌, List, [], ◌∷◌, ◌++◌, length, get_or, drop, refl, sym, ap, ap₂, ◌∙◌, subst, arith}
 use Rattle.std.proofs.lemmas.Bool.{false≢true}
 use Rattle.relay_results.specs.Words.{Mem}
 use Rattle.relay_resume.specs.declared.mark.Mark.{Mark}
 use Rattle.relay_resume.specs.declared.mark.Place.{Place}
-use Rattle.relay_resume.specs.Trails.{History, AreSettled, Follows, IsMarkOf, IsOf, StartsOpen, StopsAt, Trailing, after, noted_at}
+use Rattle.relay_resume.specs.Trails.{History, Follows, IsMarkOf, IsOf, StartsOpen, StopsAt, Trailing, after}
 
 -- the operation after those of a trail that follows the history is not settled
 stops_there : (h : History) (t : Trailing) (ps : List Place) (f : Follows h t) → ps ≡ t.ends → StartsOpen ps t.noted → StopsAt ps (length f.done + 1) h.settled

@@ -1,17 +1,16 @@
 -- The lines that are taken from the front of a text, and what follows them.
-use Rattle.std.proofs.Common.{◌≡◌, ℕ, zero, suc, ◌+◌, ◌≤◌, ◌==◌, ◌⊎◌, List, [], ◌∷◌, ◌++◌, length, drop, Option, Some, refl, ap, sym, ◌∙◌, subst, arith, inl, inr, append_assoc, append-nil, length-append}
+use Rattle.std.proofs.Common.{◌≡◌, ℕ, zero, suc, ◌+◌, ◌≤◌, List, [], ◌∷◌, ◌++◌, length, drop, Option, Some, refl, ap, sym, ◌∙◌, subst, arith, inl, inr, append_assoc, append-nil, length-append}
 use Rattle.std.proofs.Math.Seq.{drop-append_seam}
 use Rattle.relay_action.specs.declared.action.Action.{Action}
 use Rattle.relay_action.specs.declared.action.Action.TheVariants.{Index, Delete}
 use Rattle.relay_action.specs.declared.key.DocKey.{DocKey}
 use Rattle.relay_ndjson.specs.Lines.{IsLineBefore, IsUnbroken, TakesBlank, TakesText}
 use Rattle.relay_ndjson.specs.Operations.{Operation, TakesAction, TakesOperation, line_count}
-use Rattle.relay_ndjson.proofs.Asking.{decide}
-use Rattle.relay_ndjson.proofs.Fronts.{Shows, nil_of, shows_on, some_same}
+use Rattle.relay_ndjson.proofs.Fronts.{Shows, shows_on, some_same}
 use Rattle.relay_ndjson.proofs.Exclusion.{shows_behind}
 use Rattle.relay_resume.specs.Contents.{Begins, after_lines}
-use Rattle.relay_resume.specs.Lines.{line_ends, lines_length}
-use Rattle.relay_resume.proofs.Lines.{ends_append, ends_none, open_length, unbroken_parts}
+use Rattle.relay_resume.specs.Lines.{lines_length}
+use Rattle.relay_resume.proofs.Lines.{open_length, unbroken_parts}
 
 -- so many lines are at the front of a text, and this follows them
 pub record Skips (count : ℕ) (old new : List ℕ) : Type 0 where
@@ -19,25 +18,6 @@ pub record Skips (count : ℕ) (old new : List ℕ) : Type 0 where
   pub parts : old ≡ bytes ++ new
   pub lines : (more : ℕ) → lines_length (count + more) old ≡ length bytes + lines_length more new
   pub some : count ≤ length bytes
-  pub ended : (count ≤ length (line_ends 0 bytes)) ⊎ (new ≡ [])
-
--- there are as many line ends, whatever comes before
-ends_count : (n m : ℕ) (xs : List ℕ) → length (line_ends n xs) ≡ length (line_ends m xs)
-ends_count n m [] = refl
-ends_count n m (x ∷ xs) =
-    let more = ends_count (n + 1) (m + 1) xs in
-    elim (decide (x == 10)) [ inl t ↦ rw t (omega (arith, more)) | inr f ↦ rw f more ]
-
-both_ended : (n m : ℕ) (xs ys mid new : List ℕ) → mid ≡ ys ++ new → (n ≤ length (line_ends 0 xs)) ⊎ (mid ≡ []) → (m ≤ length (line_ends 0 ys)) ⊎ (new ≡ [])
-    → (n + m ≤ length (line_ends 0 (xs ++ ys))) ⊎ (new ≡ [])
-both_ended n m xs ys mid new p (inl a) (inl b) =
-    let all : length (line_ends 0 (xs ++ ys)) ≡ length (line_ends 0 xs) + length (line_ends (0 + length xs) ys) = ap length (ends_append 0 xs ys) ∙ length-append (line_ends 0 xs) (line_ends (0 + length xs) ys) in
-    let same = ends_count (0 + length xs) 0 ys in
-    inl (omega (arith, a, b, all, same))
-both_ended n m xs ys mid new p (inr a) (inl b) =
-    let none : length ys + length new ≡ 0 = sym (length-append ys new) ∙ ap length (sym p ∙ a) in
-    inr (nil_of new (omega (arith, none)))
-both_ended n m xs ys mid new p a (inr b) = inr b
 
 pub skips_none : (text : List ℕ) → Skips 0 text text
 skips_none text = record {
@@ -45,7 +25,6 @@ skips_none text = record {
   parts = refl;
   lines = λ more. ap (λ k. lines_length k text) (let e : 0 + more ≡ more = omega arith in e) ∙ (let e : lines_length more text ≡ 0 + lines_length more text = omega arith in e);
   some = omega arith;
-  ended = inl (omega arith);
 }
 
 pub skips_on : (n m : ℕ) (old mid new : List ℕ) → Skips n old mid → Skips m mid new → Skips (n + m) old new
@@ -60,7 +39,6 @@ skips_on n m old mid new s t =
           let c = t.lines more in
           omega (arith, size, a, b, c);
       some = let a = s.some in let b = t.some in omega (arith, size, a, b);
-      ended = both_ended n m s.bytes t.bytes mid new t.parts s.ended t.ended;
     }
 
 skips_same : (n m : ℕ) (old new : List ℕ) → n ≡ m → Skips n old new → Skips m old new
@@ -89,9 +67,6 @@ feed_line (x ∷ xs) rest k u =
     let more = feed_line xs rest k p.1 in
     rw f (omega (arith, more))
 
-open_line : (raw : List ℕ) (k : ℕ) → IsUnbroken raw → lines_length (suc k) raw ≡ length raw
-open_line raw k u = let e : length (line_ends 0 raw) ≡ 0 = ap length (ends_none 0 raw u) in open_length 0 (suc k) raw (omega (arith, e))
-
 next_line : (k : ℕ) (old : List ℕ) → lines_length (1 + k) old ≡ lines_length (suc k) old
 next_line k old = ap (λ (n : ℕ). lines_length n old) (let e : 1 + k ≡ suc k = omega arith in e)
 
@@ -107,9 +82,6 @@ line_skips bytes rest text (inl l) =
           let b = feed_line l.0 rest more l.1 in
           omega (arith, size, a, b);
       some = omega (arith, size);
-      ended =
-          let ends : length (line_ends 0 bytes) ≡ length (line_ends 0 l.0) + 1 = ap (λ (b : List ℕ). length (line_ends 0 b)) l.4 ∙ (ap length (ends_append 0 l.0 (10 ∷ [])) ∙ length-append (line_ends 0 l.0) (line_ends (0 + length l.0) (10 ∷ []))) in
-          inl (omega (arith, ends));
     }
 line_skips bytes rest text (inr l) =
     let whole : bytes ++ rest ≡ text = ap (λ r. bytes ++ r) l.4 ∙ (append-nil bytes ∙ l.3) in
@@ -119,12 +91,11 @@ line_skips bytes rest text (inr l) =
       parts = refl;
       lines = λ more.
           let a : lines_length (1 + more) (bytes ++ rest) ≡ lines_length (suc more) text = ap (lines_length (1 + more)) whole ∙ next_line more text in
-          let b = open_line text more l.0 in
+          let b = open_length more text l.0 in
           let c : lines_length more rest ≡ lines_length more [] = ap (lines_length more) l.4 in
           let d = none_left more in
           omega (arith, size, a, b, c, d);
       some = some_bytes text l.1 size;
-      ended = inr l.4;
     }
   where
     none_left : (k : ℕ) → lines_length k [] ≡ 0

@@ -6,7 +6,7 @@ use Rattle.relay_results.specs.Words.{Mem}
 use Rattle.relay_results.proofs.Lists.{Mem-left, Mem-last, Mem-push_cases}
 use Rattle.relay_resume.specs.declared.mark.Mark.{Mark}
 use Rattle.relay_resume.specs.declared.mark.Place.{Place}
-use Rattle.relay_resume.specs.Trails.{History, AreSettled, Follows, StartsOpen, Trailing, IsOf, after, after_one, and_put, and_settled, noted_at}
+use Rattle.relay_resume.specs.Trails.{History, AreSettled, Follows, StartsOpen, Trailing, after, after_one, and_put, and_settled, noted_at}
 use Rattle.relay_resume.specs.Steps.{SameNoted, note_at}
 
 -- ---- flags

@@ -1,13 +1,12 @@
 -- Going on with an input at a mark: what is before the mark, and what is read from it on.
-use Rattle.std.specs.Prelude.{◌≡◌, ℕ, ◌+◌, ◌<◌, ◌≤◌, ◌^◌, ◌⊎◌, List, [], ◌∷◌, ◌++◌, length, drop, IfSome, Option, None, Some, option_map}
+use Rattle.std.specs.Prelude.{◌≡◌, ℕ, ◌+◌, ◌<◌, ◌≤◌, ◌^◌, List, [], ◌∷◌, ◌++◌, length, drop, IfSome, Option, None, Some, option_map}
 use Rattle.relay_ndjson.specs.Operations.{Operation, TakesOperation, line_count}
 use Rattle.relay_ndjson.specs.Reading.{Reading, fresh}
 use Rattle.relay_words.specs.Taken.{TakesAll}
 use Rattle.relay_resume.specs.declared.mark.Mark.{Mark}
 use Rattle.relay_resume.specs.declared.mark.Place.{Place}
 use Rattle.relay_resume.specs.Contents.{Begins, End, Holds, lines_on}
-use Rattle.relay_resume.specs.Courses.{place_after}
-use Rattle.relay_resume.specs.Lines.{line_ends}
+use Rattle.relay_resume.specs.Places.{place_after, place_behind}
 use Rattle.relay_resume.specs.Trails.{AreSettled, History, IsMarkOf, after}
 
 -- what is read of an input from a mark on
@@ -89,24 +88,13 @@ abbrev pub MarksChain : Type 0
 MarksChain = (default : Option (List ℕ)) (input : List ℕ) (start m last : Mark) (done later : List Operation) →
     ComesAfter default input start done m → ComesAfter default input m later last → ComesAfter default input start (done ++ later) last
 
--- ---- what was read by then
+-- ---- the places that a reader knows
 
--- These bytes have the first lines of a text, so many: the text begins with them, and so many lines have ended in them, or
--- they are all of it.
-pub record HasLines (count : ℕ) (seen text : List ℕ) : Type 0 where
-  pub more : List ℕ
-  pub parts : text ≡ seen ++ more
-  pub ended : (count ≤ length (line_ends 0 seen)) ⊎ (more ≡ [])
-
--- the place after these lines is then the same as in the whole text
-abbrev pub PlacesStay : Type 0
-PlacesStay = (start : Mark) (count : ℕ) (seen text : List ℕ) → HasLines count seen text → place_after start count seen ≡ place_after start count text
-
--- what a reader of a text has used and holds has the lines of the operations that it returned
-abbrev pub ReadersHaveLines : Type 0
-ReadersHaveLines = (default : Option (List ℕ)) (text seen held left : List ℕ) (failed : ℕ) (new : Reading) (ops : List Operation) →
-    length text < 2 ^ 64 → TakesAll (fresh (Some text) failed default) new ops → new.ahead ≡ Some (held ++ left) → text ≡ seen ++ left
-    → HasLines new.count seen text
+-- what a reader of a text has used has the lines of the operations that it returned: the place so many lines and bytes
+-- behind a mark is the one after these lines
+abbrev pub ReadersKnowPlaces : Type 0
+ReadersKnowPlaces = (default : Option (List ℕ)) (start : Mark) (text : List ℕ) (failed : ℕ) (new : Reading) (ops : List Operation) →
+    length text < 2 ^ 64 → TakesAll (fresh (Some text) failed default) new ops → place_behind start new.count new.used ≡ place_after start new.count text
 
 -- ---- a source that goes on
 

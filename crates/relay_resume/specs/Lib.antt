@@ -10,5 +10,4 @@ pub mod Inputs
 pub mod Lines
 pub mod Contents
 pub mod GoingOn
-pub mod Courses
-pub mod Ending
+pub mod Places

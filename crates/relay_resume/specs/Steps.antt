@@ -2,7 +2,7 @@
 use Rattle.std.specs.Prelude.{◌≡◌, ℕ, zero, suc, ◌+◌, ◌<◌, ◌^◌, Bool, true, false, List, [], ◌∷◌, length, Option, None, Some}
 use Rattle.relay_resume.specs.declared.mark.Mark.{Mark}
 use Rattle.relay_resume.specs.declared.mark.Place.{Place}
-use Rattle.relay_resume.specs.Trails.{History, Follows, StartsOpen, Trailing}
+use Rattle.relay_resume.specs.Trails.{History, Follows, StartsOpen}
 pub use Rattle.relay_resume.specs.Trails.{noted_at}
 
 -- whether there is an operation, and the first one is settled

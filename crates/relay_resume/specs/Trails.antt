@@ -1,5 +1,5 @@
 -- What of one input is settled: the operations that were put, in order, which numbers were settled, and the mark.
-use Rattle.std.specs.Prelude.{◌≡◌, ℕ, zero, suc, ◌+◌, ◌<◌, Bool, true, false, IsTrue, IsFalse, List, [], ◌∷◌, ◌++◌, length}
+use Rattle.std.specs.Prelude.{◌≡◌, ℕ, zero, suc, ◌+◌, ◌<◌, Bool, false, IsTrue, IsFalse, List, [], ◌∷◌, ◌++◌, length}
 use Rattle.relay_action.specs.Streams.{one_more}
 use Rattle.relay_results.specs.Words.{Mem}
 use Rattle.relay_resume.specs.declared.mark.Mark.{Mark}

@@ -3,8 +3,7 @@ ghost use Rattle.relay_resume.specs.Contents.{FirstOnes, HoldOnce, HoldTheOthers
 ghost use Rattle.relay_resume.specs.Contents.{LinesAreFirst, ReadFromTheFront, ReadOn};
 ghost use Rattle.relay_resume.specs.Contents.{ReadToTheEnd, ReadToTheFault};
 ghost use Rattle.relay_resume.specs.GoingOn.{HistoriesComeAfter, HoldFromMarks, HoldWithMarks};
-ghost use Rattle.relay_resume.specs.GoingOn.{MarksChain, MarksComeAfter, PlacesStay};
-ghost use Rattle.relay_resume.specs.GoingOn.{ReadersHaveLines};
+ghost use Rattle.relay_resume.specs.GoingOn.{MarksChain, MarksComeAfter, ReadersKnowPlaces};
 ghost use Rattle.relay_resume.specs.Trails.{MarksAreOne};
 ghost use Rattle.relay_resume.specs.Values.{StatesAreJson};
 
@@ -54,10 +53,8 @@ pub fn marks_go_on()
     ensures chain { MarksChain }
 {}
 
-/// Laws of what was read by then. The place after some lines, in what was read of a text by then, is that
-/// in the whole text if it has these lines; and what a reader has used and holds has the lines of the
-/// operations that it returned.
-pub fn places_stay()
-    ensures places { PlacesStay }
-    ensures readers { ReadersHaveLines }
+/// A law of readers: the bytes that one has used of a text from a mark on are those up to the place after
+/// the lines of the operations that it returned.
+pub fn readers_know_places()
+    ensures { ReadersKnowPlaces }
 {}

@@ -9,12 +9,10 @@
 //! `seeking`).
 #![tactic(auto)]
 
-pub mod course;
 pub mod fault;
 mod finding;
 pub mod input;
 pub mod laws;
-pub mod line_ends;
 pub mod mark;
 pub mod reading;
 pub mod seeking;
@@ -22,10 +20,8 @@ pub mod state;
 pub mod text;
 pub mod trail;
 
-pub use course::Course;
 pub use fault::StateFault;
 pub use input::{Changed, Found, resumes};
-pub use line_ends::LineEnds;
 pub use mark::{Mark, Place};
 pub use reading::read_state;
 pub use seeking::seek_to;

@@ -3,8 +3,6 @@
 #![tactic(auto)]
 
 #[cfg(test)]
-mod courses;
-#[cfg(test)]
 mod damaged;
 #[cfg(test)]
 mod desk;

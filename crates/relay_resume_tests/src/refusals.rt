@@ -1,5 +1,4 @@
 //! Trails and states with any one of the allocations refused (`make refusals`).
-use crate::courses::settles_what_was_put;
 use crate::desk::{AFTER, BEFORE, is_state_of, joined, state_of};
 use relay_resume::{Mark, Place, State, StateFault, Trail, read_state, write_state};
 use std::alloc::{AllocError, Global};
@@ -56,11 +55,6 @@ fn refused_trails(rt: HostRuntime) {
                 count: 19
             }
     );
-}
-
-#[test]
-fn refused_courses(rt: HostRuntime) {
-    assert!(rt; settles_what_was_put(rt.alloc()));
 }
 
 fn state(alloc: Global) -> Option<State> {

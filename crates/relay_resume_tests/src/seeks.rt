@@ -3,14 +3,17 @@ ghost use Rattle.std.specs.Prelude.{◌≡◌, IfSome, Some};
 ghost use Rattle.std.specs.Io.Cursor.{cursor_inner, cursor_position};
 ghost use Rattle.relay_resume.specs.GoingOn.{bytes_from, text_from};
 
-use relay_resume::{Course, Mark, seek_to};
+use relay_resume::{Mark, Trail, seek_to};
 use std::alloc::Global;
 use std::io::{Cursor, Read};
 
 // Lines of 3, 1, 6 and 2 bytes, and 4 bytes of a line that has not ended.
 const TEXT: &[u8] = b"ab\n\nabcde\n1\nopen";
 
-// How many operations are settled, of those that end with the lines 2, 4 and 5, and what follows them.
+// Of its operations the line of the last one, and how many bytes there are up to its end.
+const ENDS: [(u64, u64); 3] = [(2, 4), (4, 12), (5, 16)];
+
+// How many of them are settled, and what follows these.
 const RESTS: [(u64, &[u8]); 4] = [(0, TEXT), (1, b"abcde\n1\nopen"), (2, b"open"), (3, b"")];
 
 // The mark after so many of these operations.
@@ -20,15 +23,14 @@ fn mark_after(alloc: Global, settled: u64) -> Option<Mark> {
         line: 0,
         count: 0,
     };
-    let mut course = Course::new(alloc, start);
-    course.read(TEXT).ok()?;
-    course.put(2).ok()?;
-    course.put(4).ok()?;
-    course.put(5).ok()?;
-    for number in 0..settled.min(3) {
-        course.settle(number + 1).ok()?;
+    let mut trail = Trail::new(alloc, start);
+    for (line, used) in ENDS {
+        trail.put(start.place_behind(line, used)).ok()?;
     }
-    Some(course.mark())
+    for number in 0..settled.min(3) {
+        trail.settle(number + 1).ok()?;
+    }
+    Some(trail.mark())
 }
 
 // A source of bytes that goes on at a mark.

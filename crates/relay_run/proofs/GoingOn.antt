@@ -5,58 +5,58 @@ use Rattle.relay_action.specs.declared.action.Action.{Action}
 use Rattle.relay_action.specs.declared.action.Action.TheVariants.{Index, Delete}
 use Rattle.relay_action.specs.declared.operation.OpName.{OpName}
 use Rattle.relay_ndjson.specs.declared.kind.InputFault.{InputFault}
-use Rattle.relay_ndjson.specs.Operations.{Operation, TakesOperation, line_count, saturating_count}
-use Rattle.relay_ndjson.specs.Reading.{Ends, Fails, Reading, fresh}
+use Rattle.relay_ndjson.specs.Operations.{Operation, TakesOperation, UsesBytes, line_count, saturating_count}
+use Rattle.relay_ndjson.specs.Reading.{Ends, Fails, Reading, Takes, fresh}
 use Rattle.relay_words.specs.Taken.{TakesAll}
 use Rattle.relay_producer.specs.States.{ProducerState}
 use Rattle.relay_resume.specs.declared.mark.Mark.{Mark}
 use Rattle.relay_resume.specs.declared.mark.Place.{Place}
 use Rattle.relay_resume.specs.Contents.{End, Holds, after_lines, lines_on}
-use Rattle.relay_resume.specs.Courses.{place_after}
-use Rattle.relay_resume.specs.GoingOn.{ArePlaces, ComesAfter, HasLines, LiesIn, text_from}
+use Rattle.relay_resume.specs.GoingOn.{ArePlaces, ComesAfter, LiesIn, text_from}
+use Rattle.relay_resume.specs.Lines.{lines_length}
+use Rattle.relay_resume.specs.Places.{place_after, place_behind}
 use Rattle.relay_resume.proofs.Followed.{fault_some, read_from_the_front, read_to_the_end, read_to_the_fault}
 use Rattle.relay_resume.proofs.Holding.{begins_after, begins_together, first_ones, hold_once}
-use Rattle.relay_resume.proofs.Marked.{as_many, hold_with_marks, marks_come_after, places_stay}
-use Rattle.relay_resume.proofs.Skipping.{begins_skips, operation_shows, operation_skips, skips_bound}
+use Rattle.relay_resume.proofs.Marked.{as_many, hold_with_marks, lines_used, marks_come_after, used_more}
+use Rattle.relay_resume.proofs.Skipping.{Skips, begins_skips, operation_shows, operation_skips, skips_bound, skips_none, skips_on}
 use Rattle.relay_common.specs.Putting.{after_puts, named_ops}
 use Rattle.relay_run.specs.declared.feed.FeedFault.{FeedFault}
 use Rattle.relay_run.specs.declared.feed.FeedFault.TheVariants as fault
-use Rattle.relay_run.specs.Feeding.{Stops, last_line, last_lines, refused_line}
-use Rattle.relay_run.specs.GoingOn.{HaveLines, PlacesDivide, RunsGoOn, RunsTogether, SafeMarksDivide, name_of_op, read_ops, refused_op}
-use Rattle.relay_run.specs.Lines.{AreEnds}
+use Rattle.relay_run.specs.Feeding.{Stops, end_of, ends_of, last_line, refused_end}
+use Rattle.relay_run.specs.GoingOn.{PlacesDivide, RunsGoOn, RunsTogether, SafeMarksDivide, name_of_op, read_ops, refused_op}
 use Rattle.relay_run.specs.Numbering.{name_on, settled_before}
 use Rattle.relay_run.specs.Readers.{answer_of}
 use Rattle.relay_run.specs.Settling.{Tellings}
-use Rattle.relay_run.proofs.Feeding.{takes_line}
+use Rattle.relay_run.proofs.Feeding.{takes_end}
 
--- ---- the operations that were read, and their lines
+-- ---- the operations that were read, and where they end
 
--- these were taken, and these are their last lines
-record AreTaken (old : Reading) (ops : List Operation) (lines : List ℕ) : Type 0 where
+-- these were taken, and this is where they end
+record AreTaken (start : Mark) (old : Reading) (ops : List Operation) (places : List Place) : Type 0 where
   last : Reading
   taken : TakesAll old last ops
-  are : last_lines old last ops taken ≡ lines
+  are : ends_of start old last ops taken ≡ places
 
-none_refused : (old rest : Reading) (ops : List Operation) (t : TakesAll old rest ops) → AreTaken old (ops ++ []) (last_lines old rest ops t ++ [])
-none_refused old rest ops t =
-    let P : List Operation → Type 0 = λ x. (u : TakesAll old rest x) × (last_lines old rest x u ≡ last_lines old rest ops t) in
+none_refused : (start : Mark) (old rest : Reading) (ops : List Operation) (t : TakesAll old rest ops) → AreTaken start old (ops ++ []) (ends_of start old rest ops t ++ [])
+none_refused start old rest ops t =
+    let P : List Operation → Type 0 = λ x. (u : TakesAll old rest x) × (ends_of start old rest x u ≡ ends_of start old rest ops t) in
     let at : P ops = (t, refl) in
     let u = subst P (sym (append-nil ops)) at in
-    record { last = rest; taken = u.0; are = u.1 ∙ sym (append-nil (last_lines old rest ops t)) }
+    record { last = rest; taken = u.0; are = u.1 ∙ sym (append-nil (ends_of start old rest ops t)) }
 
-one_refused : (old rest new : Reading) (ops : List Operation) (t : TakesAll old rest ops) (fed put : ProducerState) (result : Result Unit FeedFault) (stops : Stops rest new fed put result)
-    → AreTaken old (ops ++ refused_op rest new fed put result stops) (last_lines old rest ops t ++ refused_line rest new fed put result stops)
-one_refused old rest new ops t fed put (Ok u) stops = none_refused old rest ops t
-one_refused old rest new ops t fed put (Err (fault.Input e)) stops = none_refused old rest ops t
-one_refused old rest new ops t fed put (Err fault.NumbersSpent) stops = let m = takes_line old rest new ops stops.0 stops.1 t stops.2 in record { last = new; taken = m.0; are = m.1 }
-one_refused old rest new ops t fed put (Err fault.LaneGone) stops = let m = takes_line old rest new ops stops.0 stops.1 t stops.2 in record { last = new; taken = m.0; are = m.1 }
-one_refused old rest new ops t fed put (Err fault.Stopped) stops = none_refused old rest ops t
+one_refused : (start : Mark) (old rest new : Reading) (ops : List Operation) (t : TakesAll old rest ops) (fed put : ProducerState) (result : Result Unit FeedFault) (stops : Stops rest new fed put result)
+    → AreTaken start old (ops ++ refused_op rest new fed put result stops) (ends_of start old rest ops t ++ refused_end start rest new fed put result stops)
+one_refused start old rest new ops t fed put (Ok u) stops = none_refused start old rest ops t
+one_refused start old rest new ops t fed put (Err (fault.Input e)) stops = none_refused start old rest ops t
+one_refused start old rest new ops t fed put (Err fault.NumbersSpent) stops = let m = takes_end start old rest new ops stops.0 stops.1 t stops.2 in record { last = new; taken = m.0; are = m.1 }
+one_refused start old rest new ops t fed put (Err fault.LaneGone) stops = let m = takes_end start old rest new ops stops.0 stops.1 t stops.2 in record { last = new; taken = m.0; are = m.1 }
+one_refused start old rest new ops t fed put (Err fault.Stopped) stops = none_refused start old rest ops t
 
 -- ---- the places that were told
 
-abbrev first_or : ℕ → List ℕ → ℕ
-first_or x [] = x
-first_or x (y ∷ ys) = y
+abbrev first_or : Place → List Place → Place
+first_or p [] = p
+first_or p (x ∷ xs) = x
 
 last_is : (a : Action) (line before : ℕ) → line ≡ saturating_count (before + 1) → before + line_count a < 2 ^ 64 → last_line line a ≡ before + line_count a
 last_is (Index source) line before e low = omega (arith, e, low)
@@ -70,10 +70,6 @@ record ArePlaced (index : Option (List ℕ)) (start : Mark) (text : List ℕ) (b
   many : length done ≡ length places
   placed : ArePlaces index start text before rest done places
 
--- the place after a line of what had been read by then
-place_at : (start : Mark) (l at : ℕ) (seen text : List ℕ) (p : Place) → p ≡ place_after start l seen → HasLines l seen text → l ≡ at → p ≡ place_after start at text
-place_at start l at seen text p is has e = subst (λ (k : ℕ). p ≡ place_after start k text) e (is ∙ places_stay start l seen text has)
-
 -- one operation more, before these
 one_placed : (index : Option (List ℕ)) (start : Mark) (text : List ℕ) (before : ℕ) (rest : List ℕ) (op : Operation) (ops : List Operation) (p : Place) (ps : List Place) (n : ℕ) (mid : List ℕ)
     → TakesOperation index (Some rest) (Some mid) n op → p ≡ place_after start (before + n + line_count op.1) text
@@ -86,25 +82,47 @@ one_placed index start text before rest op ops p ps n mid lines place rec = reco
   placed = (n, mid, lines, place, rec.placed);
 }
 
-are_placed : (index : Option (List ℕ)) (start : Mark) (text : List ℕ) (before : ℕ) (rest : List ℕ) (old new : Reading) (ops : List Operation) (t : TakesAll old new ops) (lines : List ℕ) (places : List Place)
-    → old.ahead ≡ Some rest → old.default ≡ index → old.count ≡ before → before + length rest ≤ length text → length text < 2 ^ 64
-    → lines ≡ last_lines old new ops t → (ends : AreEnds start lines places) → HaveLines start text lines places ends → ArePlaced index start text before rest ops places
-are_placed index start text before rest old new ops t lines [] a d c bound low e ends have = record { done = []; later = ops; parts = refl; many = refl; placed = refl }
-are_placed index start text before rest old new ops t [] (p ∷ ps) a d c bound low e ends have = absurd ends
-are_placed index start text before rest old new [] t (l ∷ ls) (p ∷ ps) a d c bound low e ends have = absurd (let n : suc (length ls) ≡ 0 = ap length e in omega (arith, n))
-are_placed index start text before rest old new (op ∷ ops) t (l ∷ ls) (p ∷ ps) a d c bound low e ends have =
-    let s = operation_shows old.default old.ahead t.1.ahead t.0 op (rest, a) t.2.lines in
-    let lines = subst (λ (o : Option (List ℕ)). TakesOperation index (Some rest) o t.0 op) s.1
-    (subst (λ (o : Option (List ℕ)). TakesOperation index o t.1.ahead t.0 op) a (subst (λ (o : Option (List ℕ)). TakesOperation o old.ahead t.1.ahead t.0 op) d t.2.lines)) in
-    let here = skips_bound (t.0 + line_count op.1) rest s.0 (operation_skips index rest s.0 t.0 op lines) in
-    let at = before + t.0 + line_count op.1 in
-    let line_is = t.2.line in
-    let counted = t.2.count in
-    let last : last_line t.1.line op.1 ≡ at = last_is op.1 t.1.line (before + t.0) (omega (arith, line_is, c)) (omega (arith, here, bound, low)) in
-    let line : l ≡ at = ap (first_or 0) e ∙ last in
-    let place = place_at start l at ends.0.text text p ends.0.is have.0 line in
-    let rec = are_placed index start text at s.0 t.1 new ops t.3 ls ps s.1 (t.2.default ∙ d) (omega (arith, counted, c, here, bound, low)) (omega (arith, here, bound)) low (ap (drop 1) e) ends.1 have.1 in
-    one_placed index start text before rest op ops p ps t.0 s.0 lines place rec
+-- what a reader has used of a text: so many lines, and the bytes before what is left
+record IsAt (index : Option (List ℕ)) (text : List ℕ) (before : ℕ) (rest : List ℕ) (r : Reading) : Type 0 where
+  ahead : r.ahead ≡ Some rest
+  default : r.default ≡ index
+  count : r.count ≡ before
+  used : r.used + length rest ≡ length text
+  skips : Skips before text rest
+
+-- one operation more was taken, and where it ends
+one_on : (index : Option (List ℕ)) (start : Mark) (text : List ℕ) (before : ℕ) (rest : List ℕ) (old new : Reading) (n : ℕ) (op : Operation) → IsAt index text before rest old → Takes old new n op → length text < 2 ^ 64
+    → (mid : List ℕ) × TakesOperation index (Some rest) (Some mid) n op × IsAt index text (before + n + line_count op.1) mid new × (end_of start new op ≡ place_after start (before + n + line_count op.1) text)
+one_on index start text before rest old new n op a t low =
+    let s = operation_shows old.default old.ahead new.ahead n op (rest, a.ahead) t.lines in
+    let lines = subst (λ (o : Option (List ℕ)). TakesOperation index (Some rest) o n op) s.1
+    (subst (λ (o : Option (List ℕ)). TakesOperation index o new.ahead n op) a.ahead (subst (λ (o : Option (List ℕ)). TakesOperation o old.ahead new.ahead n op) a.default t.lines)) in
+    let uses = subst (λ (o : Option (List ℕ)). UsesBytes old.used new.used (Some rest) o) s.1 (subst (λ (o : Option (List ℕ)). UsesBytes old.used new.used o new.ahead) a.ahead t.used) in
+    let at = before + n + line_count op.1 in
+    let same : before + (n + line_count op.1) ≡ at = omega arith in
+    let skips = subst (λ (k : ℕ). Skips k text s.0) same (skips_on before (n + line_count op.1) text rest s.0 a.skips (operation_skips index rest s.0 n op lines)) in
+    let bound = skips_bound at text s.0 skips in
+    let used = used_more old.used new.used text rest s.0 uses a.used low in
+    let lines_are = lines_used at text s.0 skips in
+    let line_is = t.line in
+    let counted = t.count in
+    let c = a.count in
+    let last : last_line new.line op.1 ≡ at = last_is op.1 new.line (before + n) (omega (arith, line_is, c)) (omega (arith, bound, low)) in (
+      s.0,
+      lines,
+      record { ahead = s.1; default = t.default ∙ a.default; count = omega (arith, counted, c, bound, low); used = used; skips = skips },
+      ap₂ (place_behind start) last (let e : new.used ≡ lines_length at text = omega (arith, used, lines_are) in e),
+    )
+
+are_placed : (index : Option (List ℕ)) (start : Mark) (text : List ℕ) (before : ℕ) (rest : List ℕ) (old new : Reading) (ops : List Operation) (t : TakesAll old new ops) (places later : List Place)
+    → IsAt index text before rest old → length text < 2 ^ 64 → ends_of start old new ops t ≡ places ++ later → ArePlaced index start text before rest ops places
+are_placed index start text before rest old new ops t [] later a low e = record { done = []; later = ops; parts = refl; many = refl; placed = refl }
+are_placed index start text before rest old new [] t (p ∷ ps) later a low e = absurd (let n : 0 ≡ suc (length (ps ++ later)) = ap length e in omega (arith, n))
+are_placed index start text before rest old new (op ∷ ops) t (p ∷ ps) later a low e =
+    let one = one_on index start text before rest old t.1 t.0 op a t.2 low in
+    let place : p ≡ place_after start (before + t.0 + line_count op.1) text = sym (ap (first_or p) e) ∙ one.3 in
+    one_placed index start text before rest op ops p ps t.0 one.0 one.1 place
+    (are_placed index start text (before + t.0 + line_count op.1) one.0 t.1 new ops t.3 ps later one.2 low (ap (drop 1) e))
 
 text_low : (m : Mark) (input : List ℕ) → LiesIn m input → m.offset + length (text_from m input) ≡ length input
 text_low m input l =
@@ -113,16 +131,24 @@ text_low m input l =
     omega (arith, size, off)
 
 pub places_divide : PlacesDivide
-places_divide index input start m failed new before put told now result places l none feeds ends have is =
+places_divide index input m failed new before put told now result places l none feeds first is =
+    let start = now.start in
     let text = text_from start input in
     let old = fresh (Some text) failed index in
     let f = feeds.0 in
-    let t = one_refused old f.rest new f.ops f.taken (after_puts before f.ops) put result f.stops in
+    let t = one_refused told.start old f.rest new f.ops f.taken (after_puts before f.ops) put result f.stops in
+    let read = read_ops old new before put result f in
     let size = text_low start input l in
     let low = l.size in
-    let lines = ap (λ (v : Tellings). v.lines) feeds.1 ∙ (ap (λ (ls : List ℕ). ls ++ (last_lines old f.rest f.ops f.taken ++ refused_line f.rest new (after_puts before f.ops) put result f.stops)) none ∙ sym t.are) in
-    let front = read_from_the_front index text failed t.last (read_ops old new before put result f) (omega (arith, size, low)) t.taken in
-    let a = are_placed index start text 0 text old t.last (read_ops old new before put result f) t.taken now.lines places refl refl refl (omega arith) (omega (arith, size, low)) lines ends have in
+    let within : length text < 2 ^ 64 = omega (arith, size, low) in
+    let ends : ends_of told.start old t.last read t.taken ≡ places ++ first.0 =
+    sym (ap (λ (v : Tellings). v.places) feeds.1
+    ∙ (ap (λ (ps : List Place). ps ++ (ends_of told.start old f.rest f.ops f.taken ++ refused_end told.start f.rest new (after_puts before f.ops) put result f.stops)) none ∙ sym t.are)) ∙ first.1 in
+    let begins : told.start ≡ start = sym (ap (λ (v : Tellings). v.start) feeds.1) in
+    let front = read_from_the_front index text failed t.last read within t.taken in
+    let a = are_placed index start text 0 text old t.last read t.taken places first.0
+    (record { ahead = refl; default = refl; count = refl; used = omega arith; skips = skips_none text }) within
+    (subst (λ (s : Mark). ends_of s old t.last read t.taken ≡ places ++ first.0) begins ends) in
     record {
       done = a.done;
       later = a.later;
@@ -134,8 +160,8 @@ places_divide index input start m failed new before put told now result places l
     }
 
 pub safe_marks_divide : SafeMarksDivide
-safe_marks_divide index input failed new before put told result inputs tells given safe l none feeds have =
-    let d = places_divide index input safe.input.start given.1 failed new before put told safe.input result safe.done l none feeds safe.ends have safe.mark in
+safe_marks_divide index input failed new before put told result inputs tells given safe l none feeds =
+    let d = places_divide index input given.1 failed new before put told safe.input result safe.done l none feeds safe.first safe.mark in
     let many = d.many in
     record {
       done = d.done;
@@ -213,10 +239,10 @@ runs_go_on index input start m done failed new before put stopped c fed =
     }
 
 pub runs_together : RunsTogether
-runs_together index input failed new before put told result inputs tells given safe failures last begun closed stopped l none feeds have fed =
+runs_together index input failed new before put told result inputs tells given safe failures last begun closed stopped l none feeds fed =
     let start = safe.input.start in
     let text = text_from start input in
-    let d = safe_marks_divide index input failed new before put told result inputs tells given safe l none feeds have in
+    let d = safe_marks_divide index input failed new before put told result inputs tells given safe l none feeds in
     let g = runs_go_on index input start given.1 d.done failures last begun closed stopped d.comes fed in
     let read = read_ops (fresh (Some text) failed index) new before put result feeds.0 in (
       d,

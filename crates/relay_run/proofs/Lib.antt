@@ -7,7 +7,7 @@ pub mod Said
 pub mod Hinting
 pub mod Savers
 pub mod Numbers
-pub mod Lines
+pub mod Places
 pub mod Writing
 pub mod Meeting
 pub mod GoingOn

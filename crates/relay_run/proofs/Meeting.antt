@@ -1,5 +1,5 @@
 -- The marks that were given, when all that the threads of a run told has been met.
-use Rattle.std.proofs.Common.{◌≡◌, ℕ, zero, suc, ◌+◌, ◌<◌, List, [], ◌∷◌, ◌++◌, length, map, Option, None, Some, refl, sym, ap, subst, ◌∙◌, ⊎_elim, inl, inr, append_assoc, append-nil, arith}
+use Rattle.std.proofs.Common.{◌≡◌, ℕ, zero, suc, ◌+◌, List, [], ◌∷◌, ◌++◌, length, map, Option, None, Some, refl, sym, ap, subst, ◌∙◌, ⊎_elim, inl, inr, append_assoc, append-nil}
 use Rattle.std.specs.Prelude.{Bool, true, false, is_ok, slice_get, Result, Ok, Err, IfOk, IfSome}
 use Rattle.std.proofs.lemmas.Bool.{false≢true}
 use Rattle.std.proofs.lemmas.List.{length-map, map-append}
@@ -7,26 +7,24 @@ use Rattle.relay_action.specs.declared.operation.OpName.{OpName}
 use Rattle.relay_results.specs.Words.{Mem}
 use Rattle.relay_results.proofs.Lists.{Mem-left, Mem-map, some_same}
 use Rattle.relay_core.specs.declared.report.Report.{Report}
-use Rattle.relay_core.specs.declared.success.Success.{Success}
 use Rattle.relay_resume.specs.declared.mark.Mark.{Mark}
 use Rattle.relay_resume.specs.declared.mark.Place.{Place}
-use Rattle.relay_resume.specs.Lines.{AreOf}
 use Rattle.relay_resume.specs.Trails.{after}
 use Rattle.relay_receipts.specs.Ends.{Channel}
 use Rattle.relay_keeping.specs.declared.told.Told.{Told}
 use Rattle.relay_keeping.specs.Keepers.{Keeping, TakesOne, WasMark, new_keeper}
-use Rattle.relay_keeping.specs.Meeting.{AllFounded, AreSeated, IsFounded, IsSettledBy, input_ends, input_starts, lane_ends}
+use Rattle.relay_keeping.specs.Meeting.{AllFounded, AreSeated, IsSettledBy, input_ends, input_starts, lane_ends}
 use Rattle.relay_keeping.specs.Tellers.{AreNewInputs, AreNewLanes, InputState, LaneState, places_of, seat}
-use Rattle.relay_run.specs.Lines.{AreEnds, AreNewTellings, input_teller}
+use Rattle.relay_run.specs.Places.{AreFirst, AreNewTellings, input_teller}
 use Rattle.relay_threads.specs.declared.fault.FinishFault.{FinishFault}
 use Rattle.relay_threads.specs.declared.summary.Summary.{Summary}
 use Rattle.relay_run.specs.Markings.{EndsAsTold}
-use Rattle.relay_run.specs.Marks.{Bounds, IsToldBy, IsToldIf, bound, bounds_of, seats_from, tellers_from}
-use Rattle.relay_run.specs.Safe.{AllSafe, AllSafeStates, AreInputsOf, AreLanesOf, Ended, IsDone, IsLaneOf, IsSafe, starts_of}
+use Rattle.relay_run.specs.Marks.{Bounds, IsToldBy, IsToldIf, bound, seats_from, tellers_from}
+use Rattle.relay_run.specs.Safe.{AllSafe, AllSafeStates, AreInputsOf, AreLanesOf, Ended, IsDone, IsLaneOf, starts_of}
 use Rattle.relay_run.specs.Saving.{Saver, KeepsTold, lane_seat, seat_of}
 use Rattle.relay_run.specs.Settling.{Seat, Tellings, name_of, teller_of}
 use Rattle.relay_run.specs.Written.{GoesBy, Resuming}
-use Rattle.relay_run.proofs.Lines.{ends_front, no_places}
+use Rattle.relay_run.proofs.Places.{first_front, no_places}
 
 -- ---- lists
 
@@ -66,7 +64,7 @@ pub new_tellings : (channel : Channel Told) (n : ℕ) (ms : List Mark) (vs : Lis
 new_tellings channel n [] [] h = tt
 new_tellings channel n [] (v ∷ vs) h = absurd h
 new_tellings channel n (m ∷ ms) [] h = absurd h
-new_tellings channel n (m ∷ ms) (v ∷ vs) h = ((no_places v.end v.batch _ h.0.end refl h.0.batch, h.0.ends), new_tellings channel (n + 1) ms vs h.1)
+new_tellings channel n (m ∷ ms) (v ∷ vs) h = (no_places v.end v.batch _ h.0.end refl h.0.batch, new_tellings channel (n + 1) ms vs h.1)
 
 pub new_bounds : (k : Keeping) (starts : List Mark) (n : ℕ) (tellings : List Tellings) (inputs : List InputState) (lanes : List LaneState) → k ≡ new_keeper k.channel (length starts + n) starts → AreNewInputs k.channel 0 starts inputs
     → AreNewLanes k.channel (length starts) lanes → length lanes ≡ n → map teller_of tellings ≡ map input_teller inputs → IsToldBy (bound k) (map teller_of tellings) (map lane_seat lanes)
@@ -127,7 +125,7 @@ meets k ts ss inputs lanes told is are =
 -- ---- what is before a mark
 
 abbrev OfInput : Tellings → InputState → Type 0
-OfInput t v = (v.start ≡ t.start) × AreEnds t.start t.lines (places_of v)
+OfInput t v = (v.start ≡ t.start) × AreFirst (places_of v) t.places
 
 input_at : (ts : List Tellings) (vs : List InputState) (p : ℕ) (v : InputState) → AreInputsOf ts vs → slice_get vs p ≡ Some v → (t : Tellings) × (slice_get ts p ≡ Some t) × OfInput t v
 input_at [] [] p v h at = absurd (cc)
@@ -170,7 +168,7 @@ all_safe ts ss vs ls given inputs lanes founded g m =
       input = t.0;
       is_input = t.1;
       done = f.done;
-      ends = ends_front t.0.start t.0.lines f.done f.rest (subst (λ (ps : List Place). AreEnds t.0.start t.0.lines ps) f.puts t.2.1);
+      first = first_front f.done f.rest t.0.places (subst (λ (ps : List Place). AreFirst ps t.0.places) f.puts t.2.1);
       settled = λ n within. done_by ss ls g.0 (n + 1) lanes (f.settled n within);
       mark = f.mark ∙ ap (λ (s : Mark). after s f.done) t.2.0;
     }
@@ -253,7 +251,7 @@ maps_push f g xs ys x y same one =
     map-append f xs (x ∷ []) ∙ (ap (λ l. l ++ f x ∷ []) same ∙ (ap (λ z. map g ys ++ z ∷ []) one ∙ sym (map-append g ys (y ∷ []))))
 
 pub takes_input : (all old rest : List Tellings) (vs vs' : List InputState) (t : Tellings) (v : InputState) → TakesInputs all old vs → old ≡ t ∷ rest → vs' ≡ vs ++ v ∷ [] → (seat v.end ≡ t.via) × (v.start ≡ t.start)
-    → AreEnds t.start t.lines (places_of v) → TakesInputs all rest vs'
+    → AreFirst (places_of v) t.places → TakesInputs all rest vs'
 takes_input all old rest vs vs' t v h is more teller ends =
     let one : input_teller v ≡ teller_of t = λ i. (teller.0 i, teller.1 i) in record {
       before = h.before ++ t ∷ [];

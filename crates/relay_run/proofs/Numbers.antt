@@ -1,9 +1,8 @@
 -- The numbers of operations in a run that goes on with its inputs.
-use Rattle.std.proofs.Common.{◌≡◌, ℕ, ◌≤◌, List, [], ◌∷◌, ◌++◌, map, length, length-append, sym, ap, ◌∙◌, append_assoc, arith}
+use Rattle.std.proofs.Common.{◌≡◌, ℕ, List, [], ◌∷◌, ◌++◌, map, sym, ap, ◌∙◌, append_assoc}
 use Rattle.std.specs.Prelude.{slice_get}
 use Rattle.relay_core.specs.declared.report.Report.{Report}
 use Rattle.relay_resume.specs.declared.mark.Mark.{Mark}
-use Rattle.relay_resume.specs.Lines.{AreOf, Ending}
 use Rattle.relay_run.specs.Numbering.{settled_before, count_before}
 
 -- one more report was renamed
@@ -12,13 +11,6 @@ pub renamed_on : (f : Report → Report) (so_far new all left others : List Repo
 renamed_on f so_far new all left others r named is same more h =
     ap (λ (l : List Report). l ++ map f others) more ∙ (append_assoc so_far (named ∷ []) (map f others)
     ∙ (ap (λ (x : Report). so_far ++ x ∷ map f others) same ∙ (ap (λ (l : List Report). so_far ++ map f l) (sym is) ∙ h)))
-
--- nothing was passed of an input of which nothing was read
-pub none_passed : (e : Ending) → AreOf [] e → e.passed ≤ 0
-none_passed e a =
-    let p = a.passed in
-    let l : 0 ≡ length (a.done ++ e.ahead) = ap length a.ends in
-    let m = length-append a.done e.ahead in omega (arith, p, l, m)
 
 -- ---- the counts of marks
 

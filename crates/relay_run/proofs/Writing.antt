@@ -1,8 +1,7 @@
 -- The states that a run writes: the marks in them, as the keeper gives more and as they are written.
-use Rattle.std.proofs.Common.{◌≡◌, ◌≢◌, ℕ, zero, suc, ◌+◌, ◌<◌, ◌≤◌, List, [], ◌∷◌, ◌++◌, length, map, set, get_or, Option, None, Some, Bool, true, false, refl, sym, ap, subst, ◌∙◌, ⊎_elim, inl, inr, append_assoc, append-nil, arith}
-use Rattle.std.specs.Prelude.{◌⊎◌, Err, IfErr, IfOk, IfSome, Ok, Result, slice_get}
+use Rattle.std.proofs.Common.{◌≡◌, ◌≢◌, ℕ, zero, suc, ◌+◌, ◌<◌, ◌≤◌, List, [], ◌∷◌, ◌++◌, length, set, get_or, Option, None, Some, Bool, true, false, refl, sym, ap, subst, ◌∙◌, ⊎_elim, inl, inr, append_assoc, append-nil, arith}
+use Rattle.std.specs.Prelude.{Err, IfErr, IfOk, IfSome, Ok, Result, slice_get}
 use Rattle.std.proofs.lemmas.List.{length-append}
-use Rattle.std.proofs.lemmas.Option.{slice_get_past}
 use Rattle.relay_results.specs.Words.{Mem}
 use Rattle.relay_results.proofs.Lists.{Mem-last, Mem-left, Mem-push_cases, at-cases, at-last, at-left, at-within, equal_or_not, some_same}
 use Rattle.relay_resume.specs.declared.mark.Mark.{Mark}
@@ -12,8 +11,7 @@ use Rattle.relay_resume.specs.Texts.{state_text}
 use Rattle.relay_receipts.specs.declared.notice.Notice.{Notice}
 use Rattle.relay_keeping.specs.declared.told.Told.{Told}
 use Rattle.relay_keeping.specs.Keepers.{AllWere, IsMarkAfter, Keeping, TakesOne, WasMark, and_taken}
-use Rattle.relay_run.specs.Marks.{bound}
-use Rattle.relay_run.specs.Written.{AllWell, AreBegun, ArePast, AreRead, BeginsAt, GivesMore, GoesBy, IsBegun, IsMarked, IsPast, IsRead, IsWell, MayWrite, MovesOne, OpensOne, Past, Reads, Resuming, StartsAt, StillRead, Written, and_written, no_past, past_of}
+use Rattle.relay_run.specs.Written.{AllWell, AreBegun, AreRead, BeginsAt, GivesMore, GoesBy, IsBegun, IsMarked, IsPast, IsRead, IsWell, MayWrite, MovesOne, OpensOne, Past, Reads, Resuming, StartsAt, StillRead, Written, and_written, no_past, past_of}
 
 -- ---- lists
 

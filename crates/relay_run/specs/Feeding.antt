@@ -6,6 +6,9 @@ use Rattle.relay_action.specs.declared.key.DocKey.{DocKey}
 use Rattle.relay_ndjson.specs.Operations.{Operation, failed_after, saturating_count}
 use Rattle.relay_ndjson.specs.Reading.{Reading, Takes, Ends, Fails}
 use Rattle.relay_words.specs.Taken.{TakesAll}
+use Rattle.relay_resume.specs.declared.mark.Mark.{Mark}
+use Rattle.relay_resume.specs.declared.mark.Place.{Place}
+use Rattle.relay_resume.specs.Places.{place_behind}
 use Rattle.relay_producer.specs.declared.fault.PutFaultKind.{PutFaultKind}
 use Rattle.relay_producer.specs.declared.fault.PutFaultKind.TheVariants as refusal
 use Rattle.relay_producer.specs.States.{ProducerState, after_put, after_gone}
@@ -56,45 +59,49 @@ pub record Feeds (old new : Reading) (before after : ProducerState) (result : Re
   pub taken : TakesAll old rest ops
   pub stops : Stops rest new (after_puts before ops) after result
 
--- ---- the lines that are told
+-- ---- the places that are told
 
 -- the number of the last line of an operation, given that of its action line: a source follows an index action
 abbrev pub last_line : ℕ → Action → ℕ
 last_line line (Index source) = saturating_count (line + 1)
 last_line line Delete = line
 
--- those of operations that were taken one after another
-abbrev pub last_lines : (old new : Reading) (ops : List Operation) → TakesAll old new ops → List ℕ
-last_lines old new [] taken = []
-last_lines old new (op ∷ ops) taken = last_line taken.1.line op.1 ∷ last_lines taken.1 new ops taken.3
+-- where an operation ends that was just read of an input from a mark on: behind its last line, and all bytes that were used
+abbrev pub end_of : Mark → Reading → Operation → Place
+end_of start r op = place_behind start (last_line r.line op.1) r.used
 
--- that of the operation that was read, but not put, if there is one
-abbrev pub refused_line : (rest new : Reading) (fed after : ProducerState) (result : Result Unit FeedFault) → Stops rest new fed after result → List ℕ
-refused_line rest new fed after (Ok u) stops = []
-refused_line rest new fed after (Err (fault.Input e)) stops = []
-refused_line rest new fed after (Err fault.NumbersSpent) stops = last_line new.line stops.1.1 ∷ []
-refused_line rest new fed after (Err fault.LaneGone) stops = last_line new.line stops.1.1 ∷ []
-refused_line rest new fed after (Err fault.Stopped) stops = []
+-- where operations end that were taken one after another
+abbrev pub ends_of : (start : Mark) (old new : Reading) (ops : List Operation) → TakesAll old new ops → List Place
+ends_of start old new [] taken = []
+ends_of start old new (op ∷ ops) taken = end_of start taken.1 op ∷ ends_of start taken.1 new ops taken.3
 
--- that of the operation that was read in one step, if one was
-abbrev pub next_line : (old new : Reading) (before after : ProducerState) (result : Result Next FeedFault) → FeedsNext old new before after result → List ℕ
-next_line old new before after (Ok next.Put) feeds = last_line new.line feeds.1.1 ∷ []
-next_line old new before after (Ok next.Ended) feeds = []
-next_line old new before after (Err e) feeds = refused_line old new before after (Err e) feeds
+-- where the operation ends that was read, but not put, if there is one
+abbrev pub refused_end : (start : Mark) (rest new : Reading) (fed after : ProducerState) (result : Result Unit FeedFault) → Stops rest new fed after result → List Place
+refused_end start rest new fed after (Ok u) stops = []
+refused_end start rest new fed after (Err (fault.Input e)) stops = []
+refused_end start rest new fed after (Err fault.NumbersSpent) stops = end_of start new stops.1 ∷ []
+refused_end start rest new fed after (Err fault.LaneGone) stops = end_of start new stops.1 ∷ []
+refused_end start rest new fed after (Err fault.Stopped) stops = []
 
-abbrev pub with_lines : Tellings → List ℕ → Tellings
-with_lines told lines = record told { lines = told.lines ++ lines }
+-- where the operation ends that was read in one step, if one was
+abbrev pub next_end : (start : Mark) (old new : Reading) (before after : ProducerState) (result : Result Next FeedFault) → FeedsNext old new before after result → List Place
+next_end start old new before after (Ok next.Put) feeds = end_of start new feeds.1 ∷ []
+next_end start old new before after (Ok next.Ended) feeds = []
+next_end start old new before after (Err e) feeds = refused_end start old new before after (Err e) feeds
 
--- One step, in which the operation that was read, if one was, was told by its last line.
+abbrev pub with_places : Tellings → List Place → Tellings
+with_places told places = record told { places = told.places ++ places }
+
+-- One step, in which the operation that was read, if one was, was told by where it ends.
 abbrev pub FeedsTelling : Reading → Reading → ProducerState → ProducerState → (told now : Tellings) → Result Next FeedFault → Type 0
 FeedsTelling old new before after told now result =
-    (feeds : FeedsNext old new before after result) × (now ≡ with_lines told (next_line old new before after result feeds))
+    (feeds : FeedsNext old new before after result) × (now ≡ with_places told (next_end told.start old new before after result feeds))
 
--- The feeding, in which each operation that was read was told by its last line, in order.
+-- The feeding, in which each operation that was read was told by where it ends, in order.
 abbrev pub FeedsAllTelling : Reading → Reading → ProducerState → ProducerState → (told now : Tellings) → Result Unit FeedFault → Type 0
 FeedsAllTelling old new before after told now result =
     (feeds : Feeds old new before after result)
-    × (now ≡ with_lines told (last_lines old feeds.rest feeds.ops feeds.taken ++ refused_line feeds.rest new (after_puts before feeds.ops) after result feeds.stops))
+    × (now ≡ with_places told (ends_of told.start old feeds.rest feeds.ops feeds.taken ++ refused_end told.start feeds.rest new (after_puts before feeds.ops) after result feeds.stops))
 
 -- the number of failed calls of the reader after this result
 abbrev pub failed_by : {T : Type 0} → Result T FeedFault → ℕ → ℕ

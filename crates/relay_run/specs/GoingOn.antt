@@ -10,14 +10,14 @@ use Rattle.relay_producer.specs.States.{ProducerState}
 use Rattle.relay_resume.specs.declared.mark.Mark.{Mark}
 use Rattle.relay_resume.specs.declared.mark.Place.{Place}
 use Rattle.relay_resume.specs.Contents.{Begins, End, Holds, after_lines}
-use Rattle.relay_resume.specs.GoingOn.{ComesAfter, HasLines, HoldsBoth, LiesIn, text_from}
+use Rattle.relay_resume.specs.GoingOn.{ComesAfter, HoldsBoth, LiesIn, text_from}
 use Rattle.relay_resume.specs.Trails.{after}
 use Rattle.relay_common.specs.Putting.{after_puts, named_ops}
 use Rattle.relay_run.specs.declared.feed.FeedFault.{FeedFault}
 use Rattle.relay_run.specs.declared.feed.FeedFault.TheVariants as fault
 use Rattle.relay_run.specs.Feeding.{Feeds, FeedsAllTelling, Stops}
-use Rattle.relay_run.specs.Lines.{AreEnds}
 use Rattle.relay_run.specs.Numbering.{name_on, settled_before}
+use Rattle.relay_run.specs.Places.{AreFirst}
 use Rattle.relay_run.specs.Readers.{answer_of}
 use Rattle.relay_run.specs.Resuming.{line_on}
 use Rattle.relay_run.specs.Safe.{IsDone, IsSafe}
@@ -38,12 +38,6 @@ refused_op rest new fed after (Err fault.Stopped) stops = []
 abbrev pub read_ops : (old new : Reading) (before after : ProducerState) (result : Result Unit FeedFault) → Feeds old new before after result → List Operation
 read_ops old new before after result feeds = feeds.ops ++ refused_op feeds.rest new (after_puts before feeds.ops) after result feeds.stops
 
--- each of these places is the one after its line, of what had been read by then of this text, and that had the line
-abbrev pub HaveLines : (start : Mark) (text lines : List ℕ) (places : List Place) → AreEnds start lines places → Type 0
-HaveLines start text lines [] ends = Unit {0}
-HaveLines start text [] (p ∷ ps) ends = Unit {0}
-HaveLines start text (l ∷ ls) (p ∷ ps) ends = HasLines l ends.0.text text × HaveLines start text ls ps ends.1
-
 -- Of the operations that were read of an input from a mark on, which are at the front there, these come before another mark,
 -- and the others after it.
 pub record Divides (index : Option (List ℕ)) (input : List ℕ) (start m : Mark) (read : List Operation) (places : List Place) : Type 0 where
@@ -55,13 +49,13 @@ pub record Divides (index : Option (List ℕ)) (input : List ℕ) (start m : Mar
   pub lines : ℕ
   pub front : Begins index (text_from start input) read lines (after_lines lines (text_from start input))
 
--- the mark after places that a producer told of an input comes after the operations that it read first
+-- the mark after the first places that a producer told of an input comes after the operations that it read first
 abbrev pub PlacesDivide : Type 0
-PlacesDivide = (index : Option (List ℕ)) (input : List ℕ) (start m : Mark) (failed : ℕ) (new : Reading) (before put : ProducerState) (told now : Tellings)
+PlacesDivide = (index : Option (List ℕ)) (input : List ℕ) (m : Mark) (failed : ℕ) (new : Reading) (before put : ProducerState) (told now : Tellings)
     (result : Result Unit FeedFault) (places : List Place) →
-    LiesIn start input → told.lines ≡ [] → (feeds : FeedsAllTelling (fresh (Some (text_from start input)) failed index) new before put told now result)
-    → (ends : AreEnds start now.lines places) → HaveLines start (text_from start input) now.lines places ends → m ≡ after start places
-    → Divides index input start m (read_ops (fresh (Some (text_from start input)) failed index) new before put result feeds.0) places
+    LiesIn now.start input → told.places ≡ [] → (feeds : FeedsAllTelling (fresh (Some (text_from now.start input)) failed index) new before put told now result)
+    → AreFirst places now.places → m ≡ after now.start places
+    → Divides index input now.start m (read_ops (fresh (Some (text_from now.start input)) failed index) new before put result feeds.0) places
 
 -- The same of a mark that was given: each operation before it was applied, or its report was saved.
 pub record DividesSafely (index : Option (List ℕ)) (input : List ℕ) (start m : Mark) (read : List Operation) (producer : ℕ) (tells : List Saver) : Type 0 where
@@ -76,9 +70,8 @@ pub record DividesSafely (index : Option (List ℕ)) (input : List ℕ) (start m
 abbrev pub SafeMarksDivide : Type 0
 SafeMarksDivide = (index : Option (List ℕ)) (input : List ℕ) (failed : ℕ) (new : Reading) (before put : ProducerState) (told : Tellings)
     (result : Result Unit FeedFault) (inputs : List Tellings) (tells : List Saver) (given : ℕ × Mark) (safe : IsSafe inputs tells given) →
-    LiesIn safe.input.start input → told.lines ≡ []
+    LiesIn safe.input.start input → told.places ≡ []
     → (feeds : FeedsAllTelling (fresh (Some (text_from safe.input.start input)) failed index) new before put told safe.input result)
-    → HaveLines safe.input.start (text_from safe.input.start input) safe.input.lines safe.done safe.ends
     → DividesSafely index input safe.input.start given.1 (read_ops (fresh (Some (text_from safe.input.start input)) failed index) new before put result feeds.0) given.0 tells
 
 -- ---- the run that goes on
@@ -119,9 +112,8 @@ abbrev pub RunsTogether : Type 0
 RunsTogether = (index : Option (List ℕ)) (input : List ℕ) (failed : ℕ) (new : Reading) (before put : ProducerState) (told : Tellings)
     (result : Result Unit FeedFault) (inputs : List Tellings) (tells : List Saver) (given : ℕ × Mark) (safe : IsSafe inputs tells given)
     (failures : ℕ) (last : Reading) (begun closed : ProducerState) (stopped : Option FeedFault) →
-    LiesIn safe.input.start input → told.lines ≡ []
+    LiesIn safe.input.start input → told.places ≡ []
     → (feeds : FeedsAllTelling (fresh (Some (text_from safe.input.start input)) failed index) new before put told safe.input result)
-    → HaveLines safe.input.start (text_from safe.input.start input) safe.input.lines safe.done safe.ends
     → (fed : Feeds (fresh (Some (text_from given.1 input)) failures index) last begun closed (answer_of stopped))
     → (d : DividesSafely index input safe.input.start given.1 (read_ops (fresh (Some (text_from safe.input.start input)) failed index) new before put result feeds.0) given.0 tells)
     × FeedsTheOthers index input safe.input.start given.1 d.done fed.ops stopped × Repeats stopped fed.ops d.later

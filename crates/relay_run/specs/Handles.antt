@@ -26,15 +26,21 @@ module _ {S : Type 0} where
   all_given index readers [] = []
   all_given index readers (p ∷ ps) = (p, first_reader readers, index) ∷ all_given index (other_readers readers) ps
 
-  -- a thread that was given this has ended with this closed producer and this fault
-  abbrev pub EndsFed : (S → Option (List ℕ)) → (S → ℕ) → Given S → ClosedProducerState → Option FeedFault → Type 0
-  EndsFed left failed g closed fault = IsFed left failed g.2 g.1 g.0 closed fault
+  -- both
+  abbrev pub given_telling : PromisedHandle FedProducer (FedPromise S) → Given S × Tellings
+  given_telling h = (given_to h, telling_of h)
+
+  -- a thread that was given this has ended with this closed producer, with what it told by, and with this fault
+  abbrev pub EndsFed : (S → Option (List ℕ)) → (S → ℕ) → Given S × Tellings → ClosedProducerState → Tellings → Option FeedFault → Type 0
+  EndsFed left failed g closed now fault = IsFed left failed g.0.2 g.0.1 g.0.0 closed g.1 now fault
 
   -- this holds for all threads, in order
-  abbrev pub AllEndFed : (S → Option (List ℕ)) → (S → ℕ) → List (Given S) → List ClosedProducerState → List (Option FeedFault) → Type 0
-  AllEndFed left failed [] [] [] = Unit {0}
-  AllEndFed left failed [] [] (f ∷ fs) = ⊥
-  AllEndFed left failed [] (c ∷ cs) fs = ⊥
-  AllEndFed left failed (g ∷ gs) [] fs = ⊥
-  AllEndFed left failed (g ∷ gs) (c ∷ cs) [] = ⊥
-  AllEndFed left failed (g ∷ gs) (c ∷ cs) (f ∷ fs) = EndsFed left failed g c f × AllEndFed left failed gs cs fs
+  abbrev pub AllEndFed : (S → Option (List ℕ)) → (S → ℕ) → List (Given S × Tellings) → List ClosedProducerState → List Tellings → List (Option FeedFault) → Type 0
+  AllEndFed left failed [] [] [] [] = Unit {0}
+  AllEndFed left failed [] [] [] (f ∷ fs) = ⊥
+  AllEndFed left failed [] [] (n ∷ ns) fs = ⊥
+  AllEndFed left failed [] (c ∷ cs) ns fs = ⊥
+  AllEndFed left failed (g ∷ gs) [] ns fs = ⊥
+  AllEndFed left failed (g ∷ gs) (c ∷ cs) [] fs = ⊥
+  AllEndFed left failed (g ∷ gs) (c ∷ cs) (n ∷ ns) [] = ⊥
+  AllEndFed left failed (g ∷ gs) (c ∷ cs) (n ∷ ns) (f ∷ fs) = EndsFed left failed g c n f × AllEndFed left failed gs cs ns fs

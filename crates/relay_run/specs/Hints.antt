@@ -1,5 +1,5 @@
 -- What the conflicts of a run most likely come from.
-use Rattle.std.specs.Prelude.{◌≡◌, ◌⊎◌, ℕ, ◌+◌, ◌-◌, ◌*◌, ◌/◌, ◌^◌, ◌≤◌, List, ◌++◌, Option, None, Some, Bool, true, false, max, nat_lt, nat_le, codes, decimal, if◌then◌else◌}
+use Rattle.std.specs.Prelude.{◌≡◌, ℕ, ◌+◌, ◌-◌, ◌/◌, ◌^◌, ◌≤◌, List, ◌++◌, Option, None, Some, Bool, true, false, max, nat_lt, nat_le, codes, decimal, if◌then◌else◌}
 use Rattle.std.specs.List.{list_any}
 use Rattle.relay_results.specs.Words.{Mem}
 use Rattle.relay_results.specs.declared.cause.Cause.{Cause}

@@ -19,6 +19,6 @@ pub mod Resuming
 pub mod Marks
 pub mod Markings
 pub mod Safe
-pub mod Lines
+pub mod Places
 pub mod Written
 pub mod GoingOn

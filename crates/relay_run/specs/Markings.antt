@@ -1,5 +1,5 @@
 -- For the steps of a run: what its threads tell by, at the start and at the end.
-use Rattle.std.specs.Prelude.{◌≡◌, ℕ, List, map, Option, Result, IfOk}
+use Rattle.std.specs.Prelude.{◌≡◌, List, map, Option, Result, IfOk}
 use Rattle.relay_core.specs.declared.config.RelayConfig.{RelayConfig}
 use Rattle.relay_threads.specs.declared.fault.FinishFault.{FinishFault}
 use Rattle.relay_threads.specs.declared.summary.Summary.{Summary}

@@ -14,8 +14,8 @@ use Rattle.relay_resume.specs.Trails.{after}
 use Rattle.relay_keeping.specs.Keepers.{WasMark}
 use Rattle.relay_keeping.specs.Tellers.{InputState, LaneState, places_of}
 use Rattle.relay_report.specs.Reports.{report_line}
-use Rattle.relay_run.specs.Lines.{AreEnds}
 use Rattle.relay_run.specs.Numbering.{report_on}
+use Rattle.relay_run.specs.Places.{AreFirst}
 use Rattle.relay_run.specs.Saving.{BeginsWith, KeepsTold, Saver}
 use Rattle.relay_run.specs.Settling.{Tellings}
 use Rattle.relay_run.specs.Written.{Past, Reads, Written}
@@ -41,13 +41,13 @@ pub record IsDone (producer number : ℕ) (tells : List Saver) : Type 0 where
   pub is_number : name.number ≡ number
   pub ended : Ended saver name
 
--- The mark is the place after the first operations of this producer, so many as it counts: they end where the lines end
--- that the producer told first, and each of them was applied, or its report was saved.
+-- The mark is the place after the first operations of this producer, so many as it counts: they end at the first of the
+-- places that the producer told, and each of them was applied, or its report was saved.
 pub record IsSafe (inputs : List Tellings) (tells : List Saver) (given : ℕ × Mark) : Type 0 where
   pub input : Tellings
   pub is_input : slice_get inputs given.0 ≡ Some input
   pub done : List Place
-  pub ends : AreEnds input.start input.lines done
+  pub first : AreFirst done input.places
   pub settled : (n : ℕ) → n < length done → IsDone given.0 (n + 1) tells
   pub mark : given.1 ≡ after input.start done
 
@@ -88,7 +88,7 @@ abbrev pub AreInputsOf : List Tellings → List InputState → Type 0
 AreInputsOf [] [] = Unit {0}
 AreInputsOf [] (v ∷ vs) = ⊥
 AreInputsOf (t ∷ ts) [] = ⊥
-AreInputsOf (t ∷ ts) (v ∷ vs) = ((v.start ≡ t.start) × AreEnds t.start t.lines (places_of v)) × AreInputsOf ts vs
+AreInputsOf (t ∷ ts) (v ∷ vs) = ((v.start ≡ t.start) × AreFirst (places_of v) t.places) × AreInputsOf ts vs
 
 -- a lane tells what it settles by this end
 pub record IsLaneOf (s : Saver) (v : LaneState) : Type 0 where

@@ -1,7 +1,6 @@
 -- What a lane of a run is told of, and what it saves of that in its file.
 use Rattle.std.specs.Prelude.{◌≡◌, ℕ, ◌<◌, Bool, true, false, List, [], ◌∷◌, ◌++◌, Option, Some, None, flat_map, map}
 use Rattle.relay_results.specs.Words.{Mem}
-use Rattle.relay_delivery.specs.Machine as delivery
 use Rattle.relay_core.specs.declared.report.Report.{Report}
 use Rattle.relay_core.specs.declared.success.Success.{Success}
 use Rattle.relay_core.specs.Walk.{report_of}

@@ -3,6 +3,7 @@ use Rattle.std.specs.Prelude.{ℕ, Bool, true, false, List, [], ◌∷◌, ◌++
 use Rattle.relay_action.specs.declared.operation.OpName.{OpName}
 use Rattle.relay_core.specs.declared.success.Success.{Success}
 use Rattle.relay_resume.specs.declared.mark.Mark.{Mark}
+use Rattle.relay_resume.specs.declared.mark.Place.{Place}
 use Rattle.relay_receipts.specs.Ends.{Channel}
 use Rattle.relay_keeping.specs.declared.told.Told.{Told}
 
@@ -10,10 +11,10 @@ use Rattle.relay_keeping.specs.declared.told.Told.{Told}
 abbrev pub Seat : Type 0
 Seat = Option (Channel Told × ℕ)
 
--- what the thread of a producer told: the numbers of the last lines of operations, in order; by which end; and where its
--- input is read from
+-- what the thread of a producer tells: the places where the operations end that it puts, in order; by which end; and where
+-- its input is read from
 pub record Tellings : Type 0 where
-  pub lines : List ℕ
+  pub places : List Place
   pub via : Seat
   pub start : Mark
 

@@ -27,8 +27,9 @@ pub enum FeedFault {
 }
 
 /// Puts the operations of an input, in order, until there are no more, there is a fault, or the run
-/// is to stop, which it looks at before each. It tells each operation before it is put, by the number of
-/// its last line. The producer is not closed. It waits for the input, and while the queue of an operation's lane is full.
+/// is to stop, which it looks at before each. It tells each operation before it is put, by the place
+/// where it ends, and sends what it told before it may wait for the input. The producer is not closed.
+/// It waits for the input, and while the queue of an operation's lane is full.
 pub fn feed<R: Wait, S: ByteIn>(
     rt: &R,
     input: &mut Input<'_, S>,
@@ -66,6 +67,15 @@ enum Next {
     Ended,
 }
 
+// Sends what was told, if the next operation may have to wait for the input.
+fn flush_before<R: Wait, S: ByteIn>(rt: &R, input: &Input<'_, S>, telling: &mut Telling)
+    ensures { telling.new ≡ telling.old }
+{
+    if telling.has_unsent() && !input.is_ready() {
+        telling.flush(rt);
+    }
+}
+
 // Puts the next operation.
 fn feed_next<R: Wait, S: ByteIn>(
     rt: &R,
@@ -82,9 +92,10 @@ fn feed_next<R: Wait, S: ByteIn>(
     ensures same { identities (open_puts producer.new.ends)
         ≡ identities (open_puts producer.old.ends) }
 {
+    flush_before(rt, input, telling);
     match input.next() {
         Ok(Some((key, action))) => {
-            telling.put(rt, last_line(input.line(), &action));
+            telling.put(rt, last_line(input.line(), &action), input.used());
             put(rt, producer, key, action)?;
             Ok(Next::Put)
         }

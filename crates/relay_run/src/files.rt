@@ -2,6 +2,7 @@
 ghost use Rattle.std.specs.Prelude.{◌≡◌, ℕ, IfOk, IfSome, IsTrue, length, map, string_bytes, true, vec_len};
 ghost use Rattle.std.specs.Prelude.{◌≤◌, [], is_some, slice_get};
 ghost use Rattle.relay_http.specs.WrittenRequest.{is_host};
+ghost use Rattle.relay_run.specs.Places.{AllUntold};
 ghost use Rattle.relay_run.specs.ReportFile.{AreNewHandles};
 ghost use Rattle.relay_run.specs.Saving.{AreNew, AreUntold, lane_seat, seat_of};
 ghost use Rattle.relay_run.specs.Settling.{teller_of};
@@ -23,7 +24,7 @@ use crate::resolving::{is_known, say_unknown};
 use crate::resuming::{Resumed, START, say_resumed};
 use crate::run::Ran;
 use crate::saying::{are_opened, say_left, say_notes, say_ran, say_start};
-use crate::settling::{Ends, SharedRead, Telling};
+use crate::settling::{Ends, Telling};
 use crate::skipping::{LeavingOut, sift_readers};
 use crate::starting::{Devices, open_devices, say_not_started};
 use crate::stopping::{SharedStop, Stop, share_stop};
@@ -40,7 +41,6 @@ use relay_threads::StartFault;
 use relay_words::Exit;
 use std::alloc::{AllocError, Global};
 use std::io::IsTerminal;
-use std::mem;
 use std::sync::{Arc, Wait};
 use std::thread::Threads;
 use std::time::Clock;
@@ -373,12 +373,11 @@ where
     say_notes(alloc, options, exit, &left_out, err)
 }
 
-// What the threads of a run tell by, and note in what they read, what they share, and where the lines
-// of invalid operations go, if these are left out.
+// What the threads of a run tell by, what they share, and where the lines of invalid operations go, if
+// these are left out.
 #[derive(Drop)]
 struct Going {
     marked: Marked<ReportOut>,
-    reads: Vec<SharedRead>,
     common: Common,
     leaving: Option<LeavingOut<ReportOut>>,
 }
@@ -409,7 +408,6 @@ fn readers_of<R>(
     alloc: Global,
     options: &RunOptions,
     sources: Vec<Opened>,
-    reads: &[SharedRead],
     common: &Common,
 ) -> Result<Vec<Option<Reader<R>>>, AllocError>
 where
@@ -421,7 +419,7 @@ where
         stop: share_stop(&common.stop)?,
         waits: options.until.is_some(),
     };
-    make_readers(rt, alloc, sources, reads, &reading)
+    make_readers(rt, alloc, sources, &reading)
 }
 
 // Runs the files over TCP with this config, and writes the outcome.
@@ -449,13 +447,12 @@ where
     let alloc = host.alloc();
     let Going {
         marked,
-        reads,
         common,
         leaving,
     } = going;
     let show = show_of(host, alloc, options, config, &sources, &common.starts)?;
     let notes = notes_of(alloc, &sources)?;
-    let readers = readers_of(rt, alloc, options, sources, &reads, &common)?;
+    let readers = readers_of(rt, alloc, options, sources, &common)?;
     let lanes = Lanes {
         marked,
         common,
@@ -542,7 +539,7 @@ fn ends_of(
 ) -> Result<Ends, AllocError>
     ensures inputs { IfOk result (λ e. vec_len e.inputs ≡ length starts.now) }
     ensures lanes { IfOk result (λ e. vec_len e.lanes ≡ lanes) }
-    ensures new { IfOk result (λ e. AreUntold e.lanes.items) }
+    ensures new { IfOk result (λ e. AllUntold e.inputs.items × AreUntold e.lanes.items) }
     ensures told { IfOk result (λ e. IsToldIf (bounds_of e.keeper) (map teller_of e.inputs.items)
         (map lane_seat e.lanes.items)) }
     ensures keeper { IfOk result (λ e. IfSome e.keeper (λ k. (k.starts ≡ starts.now)
@@ -642,7 +639,6 @@ where
     let alloc = host.alloc();
     let Ends {
         inputs,
-        reads: _,
         lanes,
         keeper,
     } = ends;
@@ -674,13 +670,11 @@ where
         g.marked.fixed) }
 {
     let alloc = host.alloc();
-    let mut ends = ends_of(alloc, &resumed, &starts, handles.len())?;
-    let reads = mem::replace(&mut ends.reads, Vec::new(alloc));
+    let ends = ends_of(alloc, &resumed, &starts, handles.len())?;
     let common = common_of(host, alloc, options, &resumed, starts)?;
     let marked = marked_beside(rt, host, options, resumed, handles, ends, &common)?;
     Ok(Going {
         marked,
-        reads,
         common,
         leaving,
     })

@@ -214,7 +214,8 @@ impl Model for Keeping {
     ghost view = { λ k. fixed_of k.thread.promise.kept.value };
 }
 
-/// Starts it. `AllocError`: allocation failed, or it could not be started.
+/// Starts it, after a first look for the file that ends the run: if that is there, the run takes no input.
+/// `AllocError`: allocation failed, or it could not be started.
 pub(crate) fn start_keeping<R>(rt: R, alloc: Global, keeper: Keeper) -> Result<Keeping, AllocError>
 where
     R: Threads + Wait + Clock + Copy + Send + 'static,
@@ -224,6 +225,7 @@ where
     let promise = KeptPromise {
         kept: Snapshot::of(&keeper.kept),
     };
+    keeper.look();
     let mut keeper = keeper;
     let thread = thread::spawn_with(&rt, promise, move || {
         keeper.keep(&rt, alloc, &waiting);

@@ -2,8 +2,7 @@
 ghost use Rattle.std.specs.Prelude.{◌≡◌, IfOk, length, vec_len};
 
 use crate::noting::{FileNote, NotedSource, Opened, SharedNote};
-use crate::pumping::ToldSource;
-use crate::settling::{SharedRead, read_at};
+use crate::pumping::Flow;
 use crate::source::open_source;
 use crate::stopping::{SharedStop, share_stop};
 use crate::watching::share;
@@ -77,7 +76,7 @@ pub(crate) fn notes_of(alloc: Global, sources: &[Opened]) -> Result<Vec<SharedNo
 }
 
 /// A counted reader of a file.
-pub(crate) type Reader<R> = CountedReader<StdStream<ToldSource<R>>>;
+pub(crate) type Reader<R> = CountedReader<StdStream<Flow<R>>>;
 
 /// What the readers of a run are told.
 #[derive(Drop)]
@@ -90,13 +89,11 @@ pub(crate) struct ReaderOptions {
     pub waits: bool,
 }
 
-/// A reader for each file that could be opened, which notes what it reads in what is at its place, if
-/// there is something. `AllocError`: allocation failed.
+/// A reader for each file that could be opened. `AllocError`: allocation failed.
 pub(crate) fn make_readers<R>(
     rt: R,
     alloc: Global,
     sources: Vec<Opened>,
-    reads: &[SharedRead],
     options: &ReaderOptions,
 ) -> Result<Vec<Option<Reader<R>>>, AllocError>
 where
@@ -105,8 +102,7 @@ where
 {
     let mut readers = Vec::new(alloc);
     for opened in sources {
-        let ahead = read_at(reads, readers.len())?;
-        readers.push(make_reader(rt, alloc, opened, ahead, options)?)?;
+        readers.push(make_reader(rt, alloc, opened, options)?)?;
     }
     Ok(readers)
 }
@@ -116,7 +112,6 @@ fn make_reader<R>(
     rt: R,
     alloc: Global,
     opened: Opened,
-    ahead: Option<SharedRead>,
     options: &ReaderOptions,
 ) -> Result<Option<Reader<R>>, AllocError>
 where
@@ -130,7 +125,7 @@ where
         return Ok(None);
     };
     let stop = share_stop(&options.stop)?;
-    let source = ToldSource::new(rt, alloc, source, ahead, options.waits, stop)?;
+    let source = Flow::new(rt, alloc, source, options.waits, stop)?;
     let counts = share(&options.counts)?;
     Ok(Some(CountedReader::new(StdStream::new(source), counts)))
 }

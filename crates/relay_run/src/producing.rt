@@ -1,9 +1,10 @@
 //! The thread of a producer: it puts the operations of a stream, and closes.
-ghost use Rattle.std.specs.Prelude.{◌≡◌, ◌⊎◌, map, option_map, string_bytes, IfErr, IfOk, vec_len};
+ghost use Rattle.std.specs.Prelude.{◌≡◌, ◌⊎◌, List, map, option_map, string_bytes, IfErr, IfOk, vec_len};
 ghost use Rattle.relay_ndjson.specs.Metadata.{bytes_given};
+ghost use Rattle.relay_ndjson.specs.Operations.{Operation};
 ghost use Rattle.relay_producer.specs.Ends.{identities, open_puts};
-ghost use Rattle.relay_run.specs.Readers.{IsFedTelling, IsFed, EndsTelling};
-ghost use Rattle.relay_run.specs.Handles.{given_to, all_given, telling_of, AllEndFed};
+ghost use Rattle.relay_run.specs.Readers.{IsFedFrom, IsFed};
+ghost use Rattle.relay_run.specs.Handles.{given_to, all_given, telling_of, given_telling, AllEndFed};
 ghost use Rattle.relay_run.specs.Settling.{teller_of};
 
 use crate::feed::{FeedFault, feed};
@@ -47,12 +48,10 @@ pub struct FedPromise<S> {
 
 impl<S: ByteIn> Promise<FedProducer> for FedPromise<S> {
     ghost use Rattle.std.specs.Prelude.{option_map, string_bytes};
-    ghost use Rattle.relay_run.specs.Readers.{IsFed, EndsTelling};
+    ghost use Rattle.relay_run.specs.Readers.{IsFed};
 
     ghost kept_by = { λ p end. IsFed S.left S.failed (option_map string_bytes p.index.value)
-        p.reader.value p.producer.value end.closed end.fault
-        × EndsTelling S.left S.failed (option_map string_bytes p.index.value)
-        p.reader.value p.producer.value p.telling.value end.telling end.fault };
+        p.reader.value p.producer.value end.closed p.telling.value end.telling end.fault };
 }
 
 /// A producer in its thread.
@@ -68,8 +67,8 @@ fn feed_reader<R: Wait, S: ByteIn + Drop>(
     stop: &Option<SharedStop>,
     telling: &mut Telling,
 ) -> Option<FeedFault>
-    ensures fed { IsFedTelling S.left S.failed (bytes_given index.entry) (Some reader) producer.old
-        producer.new telling.old
+    ensures fed { (ops : List Operation) × IsFedFrom S.left S.failed (bytes_given index.entry)
+        (Some reader) ops producer.old producer.new telling.old
         telling.new
         result }
     ensures same { identities (open_puts producer.new.ends)
@@ -94,8 +93,8 @@ fn feed_given<R: Wait, S: ByteIn + Drop>(
     stop: &Option<SharedStop>,
     telling: &mut Telling,
 ) -> Option<FeedFault>
-    ensures fed { IsFedTelling S.left S.failed (bytes_given index.entry) reader producer.old
-        producer.new telling.old
+    ensures fed { (ops : List Operation) × IsFedFrom S.left S.failed (bytes_given index.entry)
+        reader ops producer.old producer.new telling.old
         telling.new
         result }
     ensures same { identities (open_puts producer.new.ends)
@@ -119,10 +118,7 @@ fn run_producer<R: Wait, S: ByteIn + Drop>(
     telling: Telling,
 ) -> FedProducer
     ensures fed { IsFed S.left S.failed (option_map string_bytes index) reader producer
-        result.closed
-        result.fault }
-    ensures told { EndsTelling S.left S.failed (option_map string_bytes index) reader producer
-        telling result.telling result.fault }
+        result.closed telling result.telling result.fault }
 {
     let mut producer = producer;
     let mut telling = telling;
@@ -268,7 +264,8 @@ pub(crate) fn join_producers<R: Threads, S: ByteIn + Drop + Send + 'static>(
     ensures tellers { IfOk result (λ r. map teller_of r.2.items
         ≡ map teller_of (map telling_of threads.items)) }
     ensures fed { IfOk result
-        (λ r. AllEndFed S.left S.failed (map given_to threads.items) r.0.items r.1.items) }
+        (λ r. AllEndFed S.left S.failed (map given_telling threads.items) r.0.items r.2.items
+        r.1.items) }
 {
     let mut closed = Vec::with_capacity(alloc, threads.len())?;
     let mut faults = Vec::with_capacity(alloc, threads.len())?;

@@ -1,6 +1,5 @@
 //! Reading a source that may wait for long, by a run that may be told to stop meanwhile.
 use crate::noting::NotedSource;
-use crate::settling::{SharedRead, note_read};
 use crate::stopping::{SharedStop, is_stopped};
 use crossbeam_channel::{Receiver, RecvTimeoutError, Sender, bounded};
 use std::alloc::{AllocError, Global};
@@ -125,51 +124,37 @@ impl<R: Wait + Clock> Read for Pumped<R> {
     }
 }
 
-/// How a source is read.
+/// A source of a run.
 #[derive(Drop)]
-enum Flow<R: Wait> {
+pub(crate) enum Flow<R: Wait> {
+    /// It is read as it is.
     Direct(NotedSource),
+    /// A thread of its own reads it.
     Pumped(Pumped<R>),
 }
 
-/// A source of a run, which notes what is read.
-#[derive(Drop)]
-pub(crate) struct ToldSource<R: Wait> {
-    rt: R,
-    flow: Flow<R>,
-    // Where it notes that, if it does.
-    ahead: Option<SharedRead>,
-}
-
-impl<R: Threads + Wait + Clock + Copy + Send + 'static> ToldSource<R> {
-    /// Notes what is read of a source. One that may wait is read by a thread of its own if the run may
-    /// be told to stop meanwhile. `AllocError`: allocation failed, or that could not be started.
+impl<R: Threads + Wait + Clock + Copy + Send + 'static> Flow<R> {
+    /// A source that may wait is read by a thread of its own if the run may be told to stop meanwhile.
+    /// `AllocError`: allocation failed, or that could not be started.
     pub(crate) fn new(
         rt: R,
         alloc: Global,
         source: NotedSource,
-        ahead: Option<SharedRead>,
         waits: bool,
         stop: Option<SharedStop>,
-    ) -> Result<ToldSource<R>, AllocError> {
-        let flow = if waits && source.size().is_none() {
-            Flow::Pumped(Pumped::start(rt, alloc, source, stop)?)
-        } else {
-            Flow::Direct(source)
-        };
-        Ok(ToldSource { rt, flow, ahead })
+    ) -> Result<Flow<R>, AllocError> {
+        if waits && source.size().is_none() {
+            return Ok(Flow::Pumped(Pumped::start(rt, alloc, source, stop)?));
+        }
+        Ok(Flow::Direct(source))
     }
 }
 
-impl<R: Wait + Clock> Read for ToldSource<R> {
+impl<R: Wait + Clock> Read for Flow<R> {
     fn read(&mut self, buffer: &mut [u8]) -> Result<usize, io::Error> {
-        let result = match &mut self.flow {
+        match self {
             Flow::Direct(source) => source.read(buffer),
             Flow::Pumped(source) => source.read(buffer),
-        };
-        if let Ok(count) = &result {
-            note_read(&self.rt, &self.ahead, &buffer[..*count]);
         }
-        result
     }
 }

@@ -52,7 +52,8 @@ pub struct Ran<W, F: ByteOut> {
 /// reason, if one is given, the producers read no more; what was put is then delivered as ever.
 ///
 /// For each producer there are operations that it was fed, those at the front of its reader, and
-/// its fault says why there were no more. If the relay ends with a summary, each lane took exactly
+/// its fault says why there were no more. Its thread tells where each operation ends that was read, by
+/// what is at its position. If the relay ends with a summary, each lane took exactly
 /// those of them on its documents, and delivered them: soundly and completely for each outside that
 /// its wire fitted at the start. Over all lanes no operation is reported twice, and one assignment
 /// of versions is used for all reports. Without a summary there is no promise about what was
@@ -62,8 +63,7 @@ pub struct Ran<W, F: ByteOut> {
 /// summary, the file of each lane was given the lines of exactly the reports of that lane, those of
 /// each producer in their order, unless a write failed.
 ///
-/// Each producer's thread tells by what is at its position where the operations end that it puts. What
-/// the threads told by is passed back at the end, with the ends of the channel that it had.
+/// What the threads told by is passed back at the end, with the ends of the channel that it had.
 ///
 /// `StartFault`: `BadConfig` if the config is not valid, `WireCount` if there is not one wire, one
 /// pace and one such teller for each lane; then nothing was started. `Thread`: a thread could not be started;
@@ -99,8 +99,7 @@ where
     ensures delivered { IfOk result (λ r. (queues : List Queue) × (ops : ℕ → List Operation)
         × (rows : List (List ClosedEnd))
         × AreFedFrom S.left S.failed (bytes_given index.entry) queues config.epoch ops 0
-        readers.items
-        r.faults.items
+        readers.items inputs.items r.inputs.items r.faults.items
         × IfOk r.end (λ s. AllDelivered W.describes W.fits W.carries config
         (λ p. named_ops config.epoch p 1 (ops p)) rows 0
         wires.items s.lanes.items)

@@ -58,6 +58,23 @@ fn operations_and_their_lines(rt: HostRuntime) {
     mem::forget(input);
 }
 
+fn uses_bytes(input: &mut Input<MemStream>) -> bool {
+    input.used() == 0
+        && gives(input, "7", "b", None)
+        && input.used() == 24
+        && gives(input, "1", "b", Some("{}"))
+        && input.used() == 49
+}
+
+// What is used up to the end of each operation, blank lines and line ends with it.
+#[test]
+fn operations_and_their_bytes(rt: HostRuntime) {
+    let text = b"\r\n{\"delete\":{\"_id\":7}}\r\n{\"index\":{\"_id\":1}}\r\n{}\r\n\n";
+    let mut input = input_of(&rt, rt.alloc(), text);
+    assert!(rt; uses_bytes(&mut input));
+    mem::forget(input);
+}
+
 // Lines in the usual form and in others, and their meaning.
 const FORMS: &[(&[u8], &str, &str, Option<&str>)] = &[
     (

@@ -20,6 +20,6 @@ ends-preserved c =
           let n = from_next channel k (into_iter_len c.ends.end-iterator) (into_iter_len c.next.new.self) c.in-Some.end (into_iter_items c.next.new.self) (sym s.0 ∙ h.0) (sym s.1) in (
             n.there ∙ ap (λ j. tells_from channel j (into_iter_len c.next.new.self)) (let z : k + 1 ≡ vec_len c.push.new.self = omega (arith, len) in z),
             inputs_next channel c.args.starts.now c.ends.inputs.items c.push.new.self.items c.len.result k (vec_len c.push.new.self) _ v more c.ends.inputs.ok.0 c.len.ensures (omega (arith, len)) within
-                (record { end = c.new.ensures.end ∙ ap Some n.here; start = c.new.ensures.start; batch = c.new.ensures.empty.0; whole = c.new.ensures.empty.1; ends = c.new.ensures.empty.2 }) h.1,
+                (record { end = c.new.ensures.end ∙ ap Some n.here; start = c.new.ensures.start; batch = c.new.ensures.empty.0; whole = c.new.ensures.empty.1 }) h.1,
           );
     }

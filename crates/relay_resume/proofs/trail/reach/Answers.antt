@@ -1,4 +1,4 @@
-use Rattle.std.proofs.Common.{[], ◌∷◌, ◌++◌, false, sym, ap, ◌∙◌, arith}
+use Rattle.std.proofs.Common.{ap, ◌∙◌, arith}
 use Rattle.relay_resume.specs.Trails.{noted_at}
 use Rattle.relay_resume.proofs.Trailing.{same_more}
 use Rattle.relay_resume.proofs.trail.reach.Goals as goal

@@ -1,4 +1,4 @@
-use Rattle.std.proofs.Common.{length, map, sym, subst, ap, ◌∙◌, arith}
+use Rattle.std.proofs.Common.{map, sym, subst, ◌∙◌, arith}
 use Rattle.relay_keeping.specs.Keepers.{Keeping}
 use Rattle.relay_keeping.specs.Meeting.{AreSeated, lane_ends}
 use Rattle.relay_run.specs.Marks.{IsToldBy, bound}

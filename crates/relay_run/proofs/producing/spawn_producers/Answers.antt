@@ -1,5 +1,4 @@
 use Rattle.std.proofs.Common.{◌≡◌, ◌++◌, ◌∷◌, [], map, ap, ◌∙◌, arith, rules}
-use Rattle.std.specs.Prelude.{option_map, string_bytes}
 use Rattle.std.specs.Option.{option_flatten}
 use Rattle.std.specs.Vec.Iter.{into_iter_items}
 use Rattle.relay_ndjson.specs.Metadata.{bytes_given}

@@ -15,6 +15,7 @@ pieces-preserved g c =
       start = part.1;
       failed = c.in_ok-refill.ensures.failed ∙ c.pieces.invariant.failed;
       count = c.take_part.ensures.count ∙ c.pieces.invariant.count;
+      used = c.take_part.ensures.used ∙ c.pieces.invariant.used;
     }
 
 pub returns-in_err-take_part-clause-line : goal.returns-in_err-take_part-clause-line

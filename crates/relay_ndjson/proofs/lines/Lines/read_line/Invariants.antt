@@ -15,6 +15,7 @@ invariant-pieces g l =
       start : IsStart l.self.text.items;
       failed : failed l.reader ≡ failed l.fn.reader;
       count : l.self.count ≡ l.fn.self.count;
+      used : l.self.used ≡ l.fn.self.used;
     }
 
 abbrev pub decreases-pieces : goal.decreases-pieces

@@ -3,7 +3,11 @@ use Rattle.std.proofs.lemmas.Result.{err_from_is_err_and}
 use Rattle.relay_ndjson.specs.Operations.{blank_limit, position}
 use Rattle.relay_ndjson.proofs.Stopping.{blank_stops}
 use Rattle.relay_ndjson.proofs.Taking.{blank_next, skip_fault, blank_fault}
+use Rattle.relay_ndjson.proofs.Using.{uses_more}
 use Rattle.relay_ndjson.proofs.lines.Lines.skip_blank.Goals as goal
+
+pub returns-then-not-is_empty-clause-used : goal.returns-then-not-is_empty-clause-used
+returns-then-not-is_empty-clause-used g c = uses_more _ _ _ _ _ _ c.loop-blank.invariant.used (rw c.if-not-found.false at c.in_ok-found.ensures.used)
 
 pub returns-in_err-found-clause-line : goal.returns-in_err-found-clause-line
 returns-in_err-found-clause-line g c =
@@ -30,5 +34,6 @@ loop-blank-preserved g c =
     record {
       blank = next.0;
       count = omega (arith, next.1, c.loop-blank.invariant.count);
+      used = uses_more _ _ _ _ _ _ c.loop-blank.invariant.used (rw c.if-not-found.false at c.in_ok-found.ensures.used);
       failed = c.in_ok-found.ensures.failed ∙ c.loop-blank.invariant.failed;
     }

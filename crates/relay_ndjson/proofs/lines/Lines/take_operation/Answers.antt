@@ -3,7 +3,11 @@ use Rattle.relay_ndjson.specs.Metadata.{bytes_given}
 use Rattle.relay_ndjson.specs.Operations.{position}
 use Rattle.relay_ndjson.proofs.Stopping.{source_stops}
 use Rattle.relay_ndjson.proofs.Taking.{delete_taken, source_fault, source_taken}
+use Rattle.relay_ndjson.proofs.Using.{uses_more}
 use Rattle.relay_ndjson.proofs.lines.Lines.take_operation.Goals as goal
+
+pub returns-in_ok-action-in-Index-clause-used : goal.returns-in_ok-action-in-Index-clause-used
+returns-in_ok-action-in-Index-clause-used g c = uses_more _ _ _ _ _ _ (rw c.in-Some.is at c.in_ok-kind.ensures.used) c.in_ok-action-in-Index.ensures.used
 
 pub returns-in_err-kind-clause-lines : goal.returns-in_err-kind-clause-lines
 returns-in_err-kind-clause-lines g c =

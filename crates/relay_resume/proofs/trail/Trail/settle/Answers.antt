@@ -1,4 +1,4 @@
-use Rattle.std.proofs.Common.{◌≡◌, ◌≤◌, ◌-◌, length, ap, sym, subst, arith, ◌∙◌}
+use Rattle.std.proofs.Common.{◌≤◌, ◌-◌, length, ap, sym, subst, arith, ◌∙◌}
 use Rattle.relay_resume.specs.Trails.{Trailing, Follows, and_settled}
 use Rattle.relay_resume.proofs.Trailing.{follow_noted, follow_passed, follow_same, length-note}
 use Rattle.relay_resume.proofs.trail.Trail.settle.Goals as goal

@@ -1,4 +1,4 @@
-use Rattle.std.proofs.Common.{subst, sym}
+use Rattle.std.proofs.Common.{subst}
 use Rattle.relay_run.specs.Written.{OpensOne}
 use Rattle.relay_run.proofs.resuming.Inputs.add.Goals as goal
 
