@@ -21,7 +21,7 @@ from run_cases import is_sent_again, operations, wait_until, written
 # How often a run is killed, and the number of its operations: more than are settled by then, so that each kill hits a run that works.
 KILLS, COUNT = (10, 4_000) if FEWER else (50, 20_000)
 # How many seconds before a state was written its marks may have been taken: the reports are synchronized in between.
-SLACK = 0.4
+SLACK = 1.0
 COUNTS = re.compile(rb"applied (\d+) already (\d+) reported (\d+)\n\Z")
 
 
@@ -280,7 +280,7 @@ def once_a_second():
         check("each write has another mark", len(marks) == len(times) and marks == sorted(set(marks)) and marks[:1] + marks[-1:] == [0, 2_200], (marks, times))
         gaps = [after - before for before, after in zip(times, times[1:])]
         check("at most once a second, and at the end", all(it > 0.98 for it in gaps[:-1]), gaps)
-        check("about once a second", len(gaps) > 3 and sum(gaps[:-1]) < 1.5 * len(gaps[:-1]), gaps)
+        check("about once a second", len(gaps) > 3 and sum(gaps[:-1]) < 2.5 * len(gaps[:-1]), gaps)
         server.close()
 
 
@@ -606,7 +606,7 @@ def takes_nothing(name, server, folder, files):
 
 
 def until_there():
-    """A file that is there when the run begins ends it at once."""
+    """A run that begins while the file is there that ends it takes nothing, from a file or from a pipe."""
     with tempfile.TemporaryDirectory() as folder:
         ops, server, until = operations(0, 1_000, 100), Server(), os.path.join(folder, "until")
         files = [written(folder, 0, ops)]
@@ -618,6 +618,14 @@ def until_there():
         add(files[0], open(files[0]).read())
         add(until, "")
         takes_nothing("a file that is there, from a mark on", server, folder, files)
+        line, (reader, writer) = b'{"delete":{"_id":"1"}}\n', os.pipe()
+        os.write(writer, line)
+        words = [RELAY, "run", "--to", "127.0.0.1:%d" % server.port, "--until", until, "--index", "books", "-"]
+        done = subprocess.run(words, stdin=reader, stdout=subprocess.PIPE, stderr=subprocess.PIPE, timeout=SECONDS)
+        left = os.read(reader, 100)
+        check("what is in a pipe stays there", (done.returncode, done.stdout, unlogged(done.stderr), left) == (0, b"applied 0 already 0 reported 0\n", b"stopped: --until\n", line), (done, left))
+        os.close(reader)
+        os.close(writer)
         server.close()
 
 

@@ -1,6 +1,6 @@
 //! Keeping the marks of a run: before which place of each input every operation is settled. The
-//! thread of each producer tells where the lines of the operations that it puts end, and each lane
-//! which operations are settled; the keeper takes what they tell, in messages, and gives the marks.
+//! thread of each producer tells where the operations that it puts end, and each lane which
+//! operations are settled; the keeper takes what they tell, in messages, and gives the marks.
 //! It uses a channel of `relay_receipts`, and takes no lock.
 //!
 //! What is proved, for every schedule of the threads: each mark that was given is that of what had

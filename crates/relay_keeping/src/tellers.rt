@@ -1,6 +1,6 @@
 //! What the thread of a producer and a lane tell.
 ghost use Rattle.std.specs.Prelude.{◌≡◌, ◌≢◌, ◌↔◌, [], ◌∷◌, ◌++◌, map, IfOk, IsTrue};
-ghost use Rattle.std.specs.Prelude.{Some, None, true};
+ghost use Rattle.std.specs.Prelude.{Some, None, false, true};
 ghost use Rattle.relay_keeping.specs.Histories.{names_in, places_in};
 ghost use Rattle.relay_keeping.specs.Tellers.{MaySay, MayTell, PutsPlace, SameInput, TellsOnly};
 ghost use Rattle.relay_keeping.specs.Tellers.{after_report, name_of, places_of};
@@ -21,7 +21,7 @@ use std::sync::Wait;
 // and a mark does not pass those.
 const BATCH: usize = 64;
 
-/// What the thread of a producer tells: where the lines of each operation end that it puts. Contracts
+/// What the thread of a producer tells: where each operation ends that it puts. Contracts
 /// see its end of the channel, where its input is read from, and the places that it has not sent yet.
 ///
 /// If nobody keeps marks it has no end, and does nothing.
@@ -102,7 +102,8 @@ impl InputTelling {
 
     /// It tells nobody, and does nothing. It does not allocate.
     pub fn silent(alloc: Global, start: Mark) -> InputTelling
-        ensures { (result.end ≡ None) × (result.start ≡ start) × (result.batch ≡ []) }
+        ensures { (result.end ≡ None) × (result.start ≡ start) × (result.batch ≡ [])
+            × (result.is_whole ≡ false) }
     {
         InputTelling {
             alloc,

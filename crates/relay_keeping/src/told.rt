@@ -6,7 +6,7 @@ use relay_resume::Place;
 /// channel, each by the one at its position, and the lanes by the others.
 #[derive(Debug, Drop)]
 pub enum Told {
-    /// The producer puts these operations next: where the lines of each end in its input, in order.
+    /// The producer puts these operations next: where each ends in its input, in order.
     Put(Vec<Place>),
     /// These operations are settled: the index applied them, or their reports were saved.
     Settled(Vec<OpName>),

@@ -57,7 +57,7 @@ impl<'a, R: ByteIn> Input<'a, R> {
         self.parser.is_ready()
     }
 
-    /// How many bytes of the stream are before the end of the last operation, as [`Parser::used`].
+    /// How many bytes of the stream were used, as [`Parser::used`].
     pub fn used(&self) -> u64
         ensures { result ≡ self.now.used }
     {

@@ -174,7 +174,7 @@ impl Lines {
         }
     }
 
-    // How many bytes were taken with the last line.
+    // How many bytes were taken, those of the last line with them.
     fn used_after_line(&self) -> u64
         ensures { result ≡ saturating_count (self.now.used
             + length (self.now.text.items ++ end_bytes self.now.end)) }

@@ -19,9 +19,9 @@ pub enum Phase {
 }
 
 /// The state of reading a producer's input: what was read ahead, and the number of lines taken and
-/// of their bytes. It is [`Input`](crate::Input) without the stream, which the caller holds and passes to each call,
-/// always the same one. It does not allocate before the first call of `next`, which allocates room
-/// for 64 KiB.
+/// of their bytes. It is [`Input`](crate::Input) without the stream, which the caller holds and passes
+/// to each call, always the same one. It does not allocate before the first call of `next`, which
+/// allocates room for 64 KiB.
 #[derive(Drop)]
 pub struct Parser<'a> {
     alloc: Global,
@@ -119,8 +119,8 @@ impl<'a> Parser<'a> {
         holds_two_lines(&self.lines.piece)
     }
 
-    /// How many bytes the lines have that were taken: after an operation, those up to the end of its
-    /// last line, 0 before the first. It saturates at 2^64 - 1.
+    /// How many bytes of the stream were used: 0 at the start, and after an operation those up to its
+    /// end. After the end or a fault no contract says. It saturates at 2^64 - 1.
     pub fn used(&self) -> u64
         ensures { result ≡ self.now.used }
     {

@@ -53,8 +53,8 @@ pub fn marks_go_on()
     ensures chain { MarksChain }
 {}
 
-/// A law of readers: the bytes that one has used of a text from a mark on are those up to the place after
-/// the lines of the operations that it returned.
+/// A law of readers: the bytes that one has used of a text are those of the lines of the operations
+/// that it returned, if it has returned nothing else.
 pub fn readers_know_places()
     ensures { ReadersKnowPlaces }
 {}

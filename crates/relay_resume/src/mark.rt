@@ -23,7 +23,8 @@ pub struct Mark {
 }
 
 impl Mark {
-    /// The place so many lines behind it, which have so many bytes. Both numbers saturate at `u64::MAX`.
+    /// The place so many lines behind it, which have so many bytes. Both numbers saturate at
+    /// `u64::MAX`.
     pub fn place_behind(&self, line: u64, used: u64) -> Place
         ensures { result ≡ place_behind self.now line used }
     {

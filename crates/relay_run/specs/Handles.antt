@@ -26,7 +26,7 @@ module _ {S : Type 0} where
   all_given index readers [] = []
   all_given index readers (p ∷ ps) = (p, first_reader readers, index) ∷ all_given index (other_readers readers) ps
 
-  -- both
+  -- what it is given, and what it tells by
   abbrev pub given_telling : PromisedHandle FedProducer (FedPromise S) → Given S × Tellings
   given_telling h = (given_to h, telling_of h)
 

@@ -1,5 +1,5 @@
 //! Sending files of operations to an index: the function behind `relay run`.
-ghost use Rattle.std.specs.Prelude.{◌≡◌, ℕ, IfOk, IfSome, IsTrue, length, map, string_bytes, true, vec_len};
+ghost use Rattle.std.specs.Prelude.{◌≡◌, IfOk, IfSome, IsTrue, length, map, string_bytes, true, vec_len};
 ghost use Rattle.std.specs.Prelude.{◌≤◌, [], is_some, slice_get};
 ghost use Rattle.relay_http.specs.WrittenRequest.{is_host};
 ghost use Rattle.relay_run.specs.Places.{AllUntold};
@@ -86,7 +86,7 @@ fn job_of<S>(
 where
     S: ByteIn + Drop,
     requires host { IsTrue (is_host (string_bytes options.now.to)) }
-    requires new { AreNew told.tells.items }
+    requires new { AreNew told.tells.items × AllUntold told.inputs.items }
     requires inputs { vec_len told.inputs ≡ config.producers }
     ensures config { IfOk result (λ j. j.config ≡ config) }
     ensures tells { IfOk result (λ j. j.tells ≡ told.tells.items) }
@@ -261,7 +261,7 @@ where
     R: Threads + Wait + Clock + Copy + Send + 'static,
     S: ByteIn + Drop + Send + 'static,
     requires host { IsTrue (is_host (string_bytes options.now.to)) }
-    requires new { AreNew marked.tells }
+    requires new { AreNew marked.tells × AllUntold marked.inputs }
     requires inputs { length marked.inputs ≡ config.producers }
     requires paths { HasFiles (map string_bytes options.now.files.items) marked.fixed }
     ensures stops { IfOk result (λ v. IfSome v.ran (λ o. IfOk o (λ r. vec_len r.faults
@@ -312,7 +312,7 @@ where
     requires files { vec_len options.now.files ≡ config.producers }
     requires readers { vec_len readers ≡ vec_len options.now.files }
     requires notes { vec_len lanes.notes ≡ vec_len options.now.files }
-    requires new { AreNew lanes.marked.tells }
+    requires new { AreNew lanes.marked.tells × AllUntold lanes.marked.inputs }
     requires inputs { length lanes.marked.inputs ≡ config.producers }
     requires paths { HasFiles (map string_bytes options.now.files.items) lanes.marked.fixed }
 {
@@ -362,7 +362,7 @@ where
     requires files { vec_len options.now.files ≡ config.producers }
     requires readers { vec_len readers ≡ vec_len options.now.files }
     requires notes { vec_len lanes.notes ≡ vec_len options.now.files }
-    requires new { AreNew lanes.marked.tells }
+    requires new { AreNew lanes.marked.tells × AllUntold lanes.marked.inputs }
     requires inputs { length lanes.marked.inputs ≡ config.producers }
     requires paths { HasFiles (map string_bytes options.now.files.items) lanes.marked.fixed }
 {
@@ -440,7 +440,7 @@ where
     requires host { IsTrue (is_host (string_bytes options.now.to)) }
     requires files { vec_len options.now.files ≡ config.producers }
     requires sources { vec_len sources ≡ vec_len options.now.files }
-    requires new { AreNew going.marked.tells }
+    requires new { AreNew going.marked.tells × AllUntold going.marked.inputs }
     requires inputs { length going.marked.inputs ≡ config.producers }
     requires paths { HasFiles (map string_bytes options.now.files.items) going.marked.fixed }
 {
@@ -484,7 +484,7 @@ where
     requires host { IsTrue (is_host (string_bytes options.now.to)) }
     requires files { vec_len options.now.files ≡ options.now.config.producers }
     requires sources { vec_len sources ≡ vec_len options.now.files }
-    requires new { AreNew going.marked.tells }
+    requires new { AreNew going.marked.tells × AllUntold going.marked.inputs }
     requires inputs { length going.marked.inputs ≡ options.now.config.producers }
     requires paths { HasFiles (map string_bytes options.now.files.items) going.marked.fixed }
 {
@@ -626,12 +626,12 @@ where
     R: Threads + Wait + Clock + Copy + Send + 'static,
     requires handles { AreNewHandles handles.items }
     requires lanes { vec_len ends.lanes ≡ vec_len handles }
-    requires new { AreUntold ends.lanes.items }
+    requires new { AllUntold ends.inputs.items × AreUntold ends.lanes.items }
     requires told { IsToldIf (bounds_of ends.keeper) (map teller_of ends.inputs.items)
         (map lane_seat ends.lanes.items) }
     requires begun { AreBegun resumed ends.keeper }
     requires paths { BeginsAt (map string_bytes options.now.files.items) resumed }
-    ensures new { IfOk result (λ m. AreNew m.tells) }
+    ensures new { IfOk result (λ m. AreNew m.tells × AllUntold m.inputs) }
     ensures inputs { IfOk result (λ m. m.inputs ≡ ends.inputs.items) }
     ensures paths { IfOk result (λ m. HasFiles (map string_bytes options.now.files.items)
         m.fixed) }
@@ -664,7 +664,7 @@ where
     requires handles { AreNewHandles handles.items }
     requires begun { BeginsAt (map string_bytes options.now.files.items) resumed }
     requires starts { IfSome resumed (λ r. StartsAt r.starts starts.items) }
-    ensures new { IfOk result (λ g. AreNew g.marked.tells) }
+    ensures new { IfOk result (λ g. AreNew g.marked.tells × AllUntold g.marked.inputs) }
     ensures inputs { IfOk result (λ g. length g.marked.inputs ≡ vec_len starts) }
     ensures paths { IfOk result (λ g. HasFiles (map string_bytes options.now.files.items)
         g.marked.fixed) }

@@ -214,7 +214,7 @@ impl Model for Keeping {
     ghost view = { λ k. fixed_of k.thread.promise.kept.value };
 }
 
-/// Starts it, after a first look for the file that ends the run: if that is there, the run takes no input.
+/// Starts it, after a first look for the file that ends the run: if that is there, no input is taken.
 /// `AllocError`: allocation failed, or it could not be started.
 pub(crate) fn start_keeping<R>(rt: R, alloc: Global, keeper: Keeper) -> Result<Keeping, AllocError>
 where

@@ -1,9 +1,9 @@
 //! What the threads of a run tell its keeper by, and what is known of the marks once all have ended.
 ghost use Rattle.std.specs.Prelude.{◌≡◌, IfOk, map, string_bytes};
 ghost use Rattle.relay_run.specs.Marks.{IsToldBy, IsToldIf, bound, bounds_in, held_by};
+ghost use Rattle.relay_run.specs.Places.{input_teller};
 ghost use Rattle.relay_run.specs.Saving.{lane_seat, seat_of};
 ghost use Rattle.relay_run.specs.Settling.{teller_of};
-ghost use Rattle.relay_run.specs.Places.{input_teller};
 ghost use Rattle.relay_run.specs.Safe.{AllSafe, AllSafeStates, AreInputsOf, AreLanesOf};
 ghost use Rattle.relay_run.specs.Written.{ArePast, GoesBy, past_of};
 

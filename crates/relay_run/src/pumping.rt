@@ -1,6 +1,6 @@
 //! Reading a source that may wait for long, by a run that may be told to stop meanwhile.
 use crate::noting::NotedSource;
-use crate::stopping::{SharedStop, is_stopped};
+use crate::stopping::{SharedStop, is_stopped, share_stop};
 use crossbeam_channel::{Receiver, RecvTimeoutError, Sender, bounded};
 use std::alloc::{AllocError, Global};
 use std::io::{ErrorKind, Read};
@@ -33,9 +33,18 @@ pub(crate) struct Pumped<R: Wait> {
     has_ended: bool,
 }
 
-// Reads a source to its end, or until a read fails or nobody receives any more.
-fn pump<R: Wait>(rt: &R, alloc: Global, mut source: NotedSource, pieces: &Sender<Piece, Global>) {
+// Reads a source to its end, or until a read fails, nobody receives any more, or the run is to stop.
+fn pump<R: Wait>(
+    rt: &R,
+    alloc: Global,
+    mut source: NotedSource,
+    stop: &Option<SharedStop>,
+    pieces: &Sender<Piece, Global>,
+) {
     for _ in rt.forever() {
+        if is_stopped(stop) {
+            return;
+        }
         let piece = read_piece(alloc, &mut source);
         let is_last = !matches!(&piece, Ok(piece) if !piece.is_empty());
         if pieces.send(rt, piece).is_err() || is_last {
@@ -70,7 +79,8 @@ impl<R: Threads + Wait + Clock + Copy + Send + 'static> Pumped<R> {
         stop: Option<SharedStop>,
     ) -> Result<Pumped<R>, AllocError> {
         let (sender, pieces) = bounded(alloc, PIECES)?;
-        thread::spawn(&rt, move || pump(&rt, alloc, source, &sender))?;
+        let own = share_stop(&stop)?;
+        thread::spawn(&rt, move || pump(&rt, alloc, source, &own, &sender))?;
         Ok(Pumped {
             rt,
             pieces,

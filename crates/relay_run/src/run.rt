@@ -12,6 +12,7 @@ ghost use Rattle.relay_threads.specs.Together.{AreDeliveredTogether};
 ghost use Rattle.relay_common.specs.Putting.{named_ops};
 ghost use Rattle.relay_run.specs.Saving.{AreNew, AllSave, SayFailed, seat_of};
 ghost use Rattle.relay_run.specs.Settling.{teller_of};
+ghost use Rattle.relay_run.specs.Places.{AllUntold};
 ghost use Rattle.relay_run.specs.Readers.{AreFedFrom};
 
 use crate::feed::FeedFault;
@@ -89,6 +90,7 @@ where
     F: ByteOut + Drop + Send + 'static,
     requires out { NoneOut W.out wires.items }
     requires new { AreNew tells.items }
+    requires untold { AllUntold inputs.items }
     requires inputs { vec_len inputs ≡ config.producers }
     ensures count { IfOk result (λ r. vec_len r.faults ≡ config.producers) }
     ensures bad_config { IsErrAnd result (λ e. e ≡ StartFault.BadConfig)

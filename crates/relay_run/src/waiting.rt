@@ -2,6 +2,7 @@
 ghost use Rattle.std.specs.Prelude.{◌≡◌, IfOk, IfSome, vec_len};
 ghost use Rattle.relay_run.specs.Markings.{EndsAsTold};
 ghost use Rattle.relay_threads.specs.Relay.{NoneOut};
+ghost use Rattle.relay_run.specs.Places.{AllUntold};
 ghost use Rattle.relay_run.specs.Saving.{AreNew};
 
 use crate::producing::own_text;
@@ -41,7 +42,7 @@ impl<W: Drop, F: ByteOut + Drop> Promise<Result<Ran<W, F>, StartFault>> for RanP
         r.inputs.items r.tells.items) };
 }
 
-/// What a run is given. No number is outstanding on its wires, and what its lanes tell by was told
+/// What a run is given. No number is outstanding on its wires, and what its threads tell by was told
 /// nothing. Contracts see its config, and what its threads tell by.
 #[derive(Drop)]
 pub(crate) struct Job<W: Wire, P, S, F: ByteOut> {
@@ -62,6 +63,7 @@ impl<W: Wire, P, S, F: ByteOut> Model for Job<W, P, S, F> {
     ghost use Rattle.std.specs.Prelude.{◌≡◌, vec_len};
     ghost use Rattle.relay_threads.specs.Relay.{NoneOut};
     ghost use Rattle.relay_run.specs.Markings.{Jobs};
+    ghost use Rattle.relay_run.specs.Places.{AllUntold};
     ghost use Rattle.relay_run.specs.Saving.{AreNew};
 
     ghost Value = { Jobs };
@@ -73,7 +75,7 @@ impl<W: Wire, P, S, F: ByteOut> Model for Job<W, P, S, F> {
     } };
 
     ghost invariant = { λ j. NoneOut W.out j.wires.items × AreNew j.tells.items
-        × (vec_len j.inputs ≡ j.config.producers) };
+        × (vec_len j.inputs ≡ j.config.producers) × AllUntold j.inputs.items };
 }
 
 impl<W: Wire, P, S, F: ByteOut> Job<W, P, S, F> {
@@ -86,7 +88,7 @@ impl<W: Wire, P, S, F: ByteOut> Job<W, P, S, F> {
         readers: Vec<Option<S>>,
     ) -> Job<W, P, S, F>
         requires out { NoneOut W.out wires.items }
-        requires new { AreNew tells.items }
+        requires new { AreNew tells.items × AllUntold inputs.items }
         requires inputs { vec_len inputs ≡ config.producers }
         ensures { result ≡ record { config = config; tells = tells.items; inputs = inputs.items } }
     {
