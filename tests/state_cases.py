@@ -447,7 +447,7 @@ def judge_sends(server, producers, lives, named):
     again = [it for it in later if it[1] < it[2]]
     check("each run sends what follows its marks", not strays, strays[:3])
     check("nothing settled is sent again", not again, again[:5])
-    check("enough was settled for that", moved > COUNT // 16, moved)
+    check("enough was settled for that", moved > COUNT // 40, moved)
 
 
 def judge(server, producers, named):

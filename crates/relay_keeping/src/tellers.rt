@@ -21,8 +21,8 @@ use std::sync::Wait;
 // and a mark does not pass those.
 const BATCH: usize = 64;
 
-/// What the thread of a producer tells: where each operation ends that it puts. Contracts
-/// see its end of the channel, where its input is read from, and the places that it has not sent yet.
+/// What the thread of a producer tells: where each operation ends that it puts. Contracts see its end
+/// of the channel, where its input is read from, and the places that it has not sent yet.
 ///
 /// If nobody keeps marks it has no end, and does nothing.
 #[derive(Drop)]

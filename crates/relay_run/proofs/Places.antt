@@ -1,5 +1,5 @@
 -- The places that a producer told are the first that it was given.
-use Rattle.std.proofs.Common.{◌≡◌, Bool, true, false, List, [], ◌∷◌, ◌++◌, Option, None, refl, sym, ap, subst, ◌∙◌, ⊎_elim, append_assoc, append-nil}
+use Rattle.std.proofs.Common.{◌≡◌, Bool, true, false, List, [], ◌∷◌, ◌++◌, Option, refl, sym, ap, subst, ◌∙◌, ⊎_elim, append_assoc, append-nil}
 use Rattle.std.specs.Prelude.{map}
 use Rattle.std.proofs.lemmas.Bool.{false≢true}
 use Rattle.std.proofs.lemmas.List.{map-append}
@@ -25,20 +25,6 @@ first_all first all e = ([], e ∙ sym (append-nil first))
 pub no_places : (end : Option (TellEnd Told)) (batch : List Place) (other : Option (TellEnd Told)) → end ≡ other → said_at other ≡ [] → batch ≡ [] → places_in (said_at end) ++ batch ≡ []
 no_places end batch other e none b =
     ap (λ (o : Option (TellEnd Told)). places_in (said_at o) ++ batch) e ∙ (ap (λ s. places_in s ++ batch) none ∙ b)
-
--- nothing was told yet
-pub told_new : (v : InputState) → places_of v ≡ [] → IsTold v []
-told_new v none = record { first = first_all (places_of v) [] (sym none); all = λ w. sym none }
-
-pub told_nothing : (v : InputState) → v.end ≡ None → v.batch ≡ [] → IsTold v []
-told_nothing v e b = told_new v (no_places v.end v.batch None e refl b)
-
--- what was told was sent
-pub told_sent : (old new : InputState) (places : List Place) → IsTold old places → places_of new ≡ places_of old → (new.is_whole ≡ true → old.is_whole ≡ true) → IsTold new places
-told_sent old new places h same whole = record {
-  first = subst (λ (ps : List Place). AreFirst ps places) (sym same) h.first;
-  all = λ w. h.all (whole w) ∙ sym same;
-}
 
 module _ (old new : InputState) (places : List Place) (place : Place) (h : IsTold old places) (puts : PutsPlace place old new) where
   -- it was not whole before
