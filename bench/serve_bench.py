@@ -17,8 +17,9 @@ SIZES = (100, 1000)
 # The microseconds that the server takes for a request, and the goal: the maximum ratio of the median time of a single write to that
 # of a direct one.
 SINGLES = ((0, 3.0), (1000, 1.2))
-# The goal: the minimum ratio of the operations per second of requests of 500 to those of direct ones, with the slower server.
-RATE_GOAL = 0.8
+# The relays that clients send requests of 500 to, by name, with their options; and the goal: the minimum ratio of the operations per
+# second of the last one to those of direct ones, with the slower server. A few clients with large requests keep more lanes busy.
+RATED, RATE_GOAL = (("4 lanes", ()), ("8 lanes", ("--lanes", "8"))), 0.8
 # The index of a crowd: the nanoseconds per operation, the microseconds per request, and how many requests it runs at a time.
 CROWDED = (4000, 1000, 4)
 # Clients that each write one document after another, the options of the relay, and the goal: the minimum ratio of their rate to the direct
@@ -72,13 +73,14 @@ class Handing:
 
 
 @contextlib.contextmanager
-def ports(relay, handing, server, operations):
-    """Starts the relays before a server, and gives the port of each and of the server, by name. `relay serve` must have had so many operations
-    applied at the end."""
+def ports(relay, handing, server, operations, shapes=(("relay", ()),)):
+    """Starts the relays before a server, and gives the port of each and of the server, by name. `relay serve` is started with the options of
+    each shape, and must have had so many operations applied at the end."""
     with Handing(handing, server) if handing else contextlib.nullcontext() as floor:
-        standing = Relay(relay, server)
-        yield {"relay": standing.port, **({"handing": floor.port} if floor else {}), "direct": server.port}
-        applied(standing, operations)
+        standing = {name: Relay(relay, server, *options) for name, options in shapes}
+        yield {**{name: its.port for name, its in standing.items()}, **({"handing": floor.port} if floor else {}), "direct": server.port}
+        for its in standing.values():
+            applied(its, operations)
 
 
 def applied(relay, wanted):
@@ -111,14 +113,16 @@ def measure_rates(folder, relay, bulk, handing):
             with open(path, "rb") as file:
                 paths.append(write_bodies(file.read().split(b"\n"), path + "-ready"))
         for nanoseconds, called in SERVERS:
-            with Server(bulk, nanoseconds) as server, ports(relay, handing, server, TURNS * OPERATIONS) as to:
+            with Server(bulk, nanoseconds) as server, ports(relay, handing, server, TURNS * OPERATIONS, RATED) as to:
                 walls = {name: [] for name in to}
                 for _ in range(TURNS):
                     for name, port in to.items():
                         walls[name].append(once([bulk, "ready", port, *paths])[0])
-            ratio, floor = (plain_rust.median([its / own for own, its in zip(walls[name], walls["direct"])]) if name in walls else None for name in ("relay", "handing"))
-            line = "serve: %d operations of %d bytes in requests of 500 from %d clients, a server %s: %.0f operations/s, %.2f of direct" % (OPERATIONS, size, CLIENTS, called, OPERATIONS / plain_rust.median(walls["relay"]), ratio)
-            print(line + (" (goal %.1f: %s)" % (RATE_GOAL, "met" if ratio >= RATE_GOAL else "MISSED") if nanoseconds else "") + beside(floor))
+            ratios = {name: plain_rust.median([its / own for own, its in zip(of, walls["direct"])]) for name, of in walls.items()}
+            told = ", ".join("%s %.2f of direct" % (name, ratios[name]) for name, _ in RATED)
+            line = "serve: %d operations of %d bytes in requests of 500 from %d clients, a server %s: direct %.0f operations/s, with %s" % (OPERATIONS, size, CLIENTS, called, OPERATIONS / plain_rust.median(walls["direct"]), told)
+            met = "met" if ratios[RATED[-1][0]] >= RATE_GOAL else "MISSED"
+            print(line + (" (goal of the last %.1f: %s)" % (RATE_GOAL, met) if nanoseconds else "") + beside(ratios.get("handing")))
 
 
 def write(bulk, port, clients, seconds):

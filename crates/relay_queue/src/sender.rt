@@ -15,9 +15,9 @@ use std::{hint, thread};
 /// The maximum number of messages that one sender puts, without its Done: 2^40.
 pub const PUT_LIMIT: u64 = 1 << 40;
 
-/// The number of tries before an end sleeps in the channel. Waking a sleeper takes a system call,
-/// so a busy queue is faster if its ends wait a little first.
-pub(crate) const TRIES: u32 = 100;
+// The number of tries before a sender sleeps in the channel. A full queue is often that of a lane
+// which waits for its index, so a sender that tries for longer takes processor time for nothing.
+const TRIES: u32 = 4;
 
 /// Gives the other side time: in the first turns by spinning, longer each turn, and then by
 /// yielding the processor. The first turn is long enough for the other side to move several

@@ -7,11 +7,15 @@ ghost use Rattle.relay_queue.specs.Messages.{mail_of, HasDone, IsWellSent, IsWel
 use crate::bell::Bell;
 use crate::refusal::Gone;
 use crate::rule::{MailPass, MailReceiver, Meets, Reads, Takes};
-use crate::sender::{ClosedPut, TRIES, pause};
+use crate::sender::{ClosedPut, pause};
 use crossbeam_channel::TryRecvError;
 use relay_action::Mail;
 use std::marker::Model;
 use std::sync::Wait;
+
+// The number of tries before the taker sleeps in the channel. Waking a sleeper takes a system call,
+// so what comes soon is taken sooner if the taker waits a little first.
+const TRIES: u32 = 100;
 
 /// The taker's end of a queue. Contracts see its queue, its number of senders, and the list of what
 /// was taken.

@@ -99,6 +99,11 @@ impl Batch {
         })
     }
 
+    /// How many of them are open.
+    pub(crate) fn open(&self) -> u64 {
+        self.open
+    }
+
     /// One more write was put, with this number, in this lane.
     pub(crate) fn add(&mut self, number: u64, lane: u32)
         requires { vec_len self.old.items < vec_capacity self.old.items }

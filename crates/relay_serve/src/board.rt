@@ -3,6 +3,7 @@ use crate::clerk::say_refusal;
 use crate::counts::Counts;
 use crate::options::{ServeLog, ServeOptions};
 use relay_clients::{Places, Room, Signals};
+use relay_core::config::LANE_LIMIT;
 use std::alloc::{AllocError, Global};
 use std::net::SocketAddr;
 use std::sync::Arc;
@@ -12,6 +13,9 @@ use std::time::Instant;
 // How many operations of a term may be reported before the next one begins: lanes keep reports until
 // their term ends.
 const REPORTS: u64 = 100_000;
+
+// The length of a row: the maximum number of lanes.
+pub(crate) const ROW: usize = LANE_LIMIT as usize;
 
 /// Whether the server or its term ends, how many connections wait for a worker and how many are
 /// served, and what is counted. Each part is read separately.
@@ -31,8 +35,10 @@ pub struct Board {
     pub(crate) places: Places,
     /// The bytes of requests that are open.
     pub(crate) room: Room,
-    // How many operations were put to each lane and have not ended.
+    // How many operations each worker has put to each lane that have not ended: a row of a number for
+    // each lane there may be, so that no two workers write to one line of a processor's cache.
     open: Vec<AtomicU64>,
+    lanes: usize,
     // When the server was started. Since when each worker has had open operations, in milliseconds
     // after that, and 1 more; 0 if it has none. And how many workers the term has.
     start: Option<Instant>,
@@ -101,7 +107,7 @@ impl Board {
         let counts = Counts::new(alloc)?;
         let places = Places::new(alloc)?;
         let room = Room::new(alloc, options.room)?;
-        let open = zeros(alloc, options.config.lanes)?;
+        let open = zeros(alloc, options.config.producers.saturating_mul(ROW as u32))?;
         let since = zeros(alloc, options.config.producers)?;
         let index = relay_progress::Counts::shared(alloc)?;
         Ok(Arc::new(
@@ -119,6 +125,7 @@ impl Board {
                 places,
                 room,
                 open,
+                lanes: options.config.lanes as usize,
                 start: Instant::now(host).ok(),
                 since,
                 workers: AtomicU64::new(0),
@@ -189,24 +196,27 @@ impl Board {
         self.is_ending() && is_shut && self.places.taken() == 0
     }
 
-    /// An operation was put to this lane.
-    pub(crate) fn add_open(&self, lane: u32) {
-        if let Some(open) = self.open.get(lane as usize) {
-            open.fetch_add(1, Ordering::SeqCst);
-        }
-    }
-
-    /// An operation that was put to this lane has ended.
-    pub(crate) fn take_open(&self, lane: u32) {
-        if let Some(open) = self.open.get(lane as usize) {
-            open.fetch_sub(1, Ordering::SeqCst);
+    /// So many operations that this worker has put to this lane have not ended.
+    pub(crate) fn set_open(&self, worker: usize, lane: u32, count: u64) {
+        let place = worker.saturating_mul(ROW).saturating_add(lane as usize);
+        if let Some(open) = self.open.get(place) {
+            open.store(count, Ordering::SeqCst);
         }
     }
 
     /// How many operations were put to the lane with this number, from 0, and have not ended, as far as
     /// workers know. `None`: there is no such lane.
     pub(crate) fn open(&self, lane: usize) -> Option<u64> {
-        Some(self.open.get(lane)?.load(Ordering::SeqCst))
+        if lane >= self.lanes {
+            return None;
+        }
+        let mut count = 0u64;
+        for row in self.open.chunks(ROW) {
+            if let Some(open) = row.get(lane) {
+                count = count.saturating_add(open.load(Ordering::SeqCst));
+            }
+        }
+        Some(count)
     }
 
     /// The term has one more worker. Returns its number, from 0.

@@ -1,5 +1,5 @@
 //! A worker's producer, which settles the writes of requests.
-ghost use Rattle.std.specs.Prelude.{◌≡◌, ◌⊎◌, ℕ, ◌+◌, ◌≤◌, [], ◌∷◌, ◌++◌, IfNone, IfOk, IfSome};
+ghost use Rattle.std.specs.Prelude.{◌≡◌, ◌⊎◌, ℕ, ◌+◌, ◌≤◌, [], ◌∷◌, ◌++◌, IfErr, IfNone, IfOk, IfSome};
 ghost use Rattle.std.specs.Prelude.{List, OnErr, false, length, vec_capacity, vec_len};
 ghost use Rattle.relay_producer.specs.Ends.{ClosesAll};
 ghost use Rattle.relay_receipts.specs.Windows.{WindowState, without_ended};
@@ -14,11 +14,21 @@ use crate::timing::Timer;
 use relay_action::{Action, DocKey};
 use relay_front::{End, Settled};
 use relay_producer::{ClosedProducer, Receipt};
-use relay_receipts::{Notice, ReceiptTake, WindowFault, WindowFaultKind, WindowedProducer};
+use relay_receipts::{Gone, Notice, ReceiptTake, WindowFault, WindowFaultKind, WindowedProducer};
 use relay_telling::Ending;
 use std::alloc::{AllocError, Global};
 use std::sync::Wait;
-use std::time::{Clock, Instant};
+use std::thread;
+use std::time::{Clock, Duration, Instant};
+
+// While more than so many writes are open, a worker looks for notices now and then, and sleeps between two
+// looks: at first for so many microseconds, and a fourth longer each time that it finds none, up to so
+// many.
+const MANY: u64 = 32;
+
+const NAP: u64 = 100;
+
+const LONG_NAP: u64 = 2_000;
 
 /// What settles the writes of a worker's requests: its producer, with a window of operations that
 /// may be open.
@@ -71,8 +81,65 @@ fn make_room(alloc: Global, count: usize) -> Result<(Vec<End>, Batch), AllocErro
 }
 
 impl Settler {
-    // The next notice, unless the time is over or no lane tells any more.
-    fn next_notice<R: Wait + Clock>(&mut self, rt: &R, timer: &Timer) -> Option<Notice<Ending>>
+    // Takes the next notice, and sleeps after each look, until the time is over.
+    fn look<R: Wait + Clock>(
+        &mut self,
+        rt: &R,
+        timer: &Timer,
+    ) -> Result<Option<Notice<Ending>>, Gone>
+        ensures stays { Stays self.old.producer self.new.producer }
+        ensures same { self.new.producer.producer ≡ self.old.producer.producer }
+        ensures taken { IfOk result (λ o. IfSome o (λ n. self.new.producer.receipts.taken
+            ≡ self.old.producer.receipts.taken ++ n ∷ [])) }
+        ensures pending { IfOk result (λ o. IfSome o (λ n. self.new.producer.pending
+            ≡ without_ended n.told self.old.producer.pending)) }
+        ensures none { IfOk result (λ o. IfNone o (self.new.producer ≡ self.old.producer)) }
+        ensures gone { IfErr result (λ _. self.new.producer ≡ self.old.producer) }
+    {
+        let mut nap = NAP;
+        'looks: for _ in rt.forever() {
+            let taken = self.producer.try_take(rt)?;
+            if taken.is_some() || timer.left(rt).is_zero() {
+                return Ok(taken);
+            }
+            thread::sleep(rt, Duration::from_micros(nap));
+            nap = nap.saturating_add(nap / 4).min(LONG_NAP);
+        }
+        unreachable!()
+    }
+
+    // Takes the next notice, unless the time is over. Where many writes are open it is not waited for
+    // in the channel, where each notice would wake the thread.
+    fn take<R: Wait + Clock>(
+        &mut self,
+        rt: &R,
+        timer: &Timer,
+        open: u64,
+    ) -> Result<Option<Notice<Ending>>, Gone>
+        ensures stays { Stays self.old.producer self.new.producer }
+        ensures same { self.new.producer.producer ≡ self.old.producer.producer }
+        ensures taken { IfOk result (λ o. IfSome o (λ n. self.new.producer.receipts.taken
+            ≡ self.old.producer.receipts.taken ++ n ∷ [])) }
+        ensures pending { IfOk result (λ o. IfSome o (λ n. self.new.producer.pending
+            ≡ without_ended n.told self.old.producer.pending)) }
+        ensures none { IfOk result (λ o. IfNone o (self.new.producer ≡ self.old.producer)) }
+        ensures gone { IfErr result (λ _. self.new.producer ≡ self.old.producer) }
+    {
+        if open > MANY {
+            self.look(rt, timer)
+        } else {
+            self.producer.take_within(rt, timer.left(rt))
+        }
+    }
+
+    // The next notice, unless the time is over or no lane tells any more, where so many writes are
+    // open.
+    fn next_notice<R: Wait + Clock>(
+        &mut self,
+        rt: &R,
+        timer: &Timer,
+        open: u64,
+    ) -> Option<Notice<Ending>>
         ensures stays { Stays self.old.producer self.new.producer }
         ensures same { self.new.producer.producer ≡ self.old.producer.producer }
         ensures taken { IfSome result (λ n. self.new.producer.receipts.taken
@@ -81,7 +148,7 @@ impl Settler {
             ≡ without_ended n.told self.old.producer.pending) }
         ensures none { IfNone result (self.new.producer ≡ self.old.producer) }
     {
-        match self.producer.take_within(rt, timer.left(rt)) {
+        match self.take(rt, timer, open) {
             Ok(notice) => notice,
             Err(_) => {
                 self.tally.shared.fail();
@@ -97,7 +164,7 @@ impl Settler {
         ensures hears { Hears self.old.producer self.new.producer batch.old batch.new }
         ensures none { result ≡ false → self.new.producer ≡ self.old.producer }
     {
-        match self.next_notice(rt, timer) {
+        match self.next_notice(rt, timer, batch.open()) {
             Some(notice) => {
                 note(&mut self.tally, batch, notice);
                 true

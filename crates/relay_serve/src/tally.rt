@@ -1,14 +1,16 @@
 //! What is counted of a worker's open operations.
-use crate::board::Shared;
+use crate::board::{ROW, Shared};
 use crate::timing::Timer;
 
 /// Counts the operations of a worker that are open, for those who watch the server.
 #[derive(Drop)]
 pub(crate) struct Tally {
     pub(crate) shared: Shared,
-    // The worker's number in its term, from 0, and how many of its operations are open.
+    // The worker's number in its term, from 0, and how many of its operations are open, in all and in
+    // each lane.
     worker: usize,
     open: u64,
+    lanes: [u64; ROW],
 }
 
 impl Tally {
@@ -19,12 +21,16 @@ impl Tally {
             shared,
             worker,
             open: 0,
+            lanes: [0; ROW],
         }
     }
 
     /// An operation was put to this lane, for the request of this timer.
     pub(crate) fn put(&mut self, lane: u32, timer: &Timer) {
-        self.shared.add_open(lane);
+        if let Some(count) = self.lanes.get_mut(lane as usize) {
+            *count = count.saturating_add(1);
+            self.shared.set_open(self.worker, lane, *count);
+        }
         if self.open == 0 {
             self.shared.set_since(self.worker, timer.start);
         }
@@ -33,7 +39,10 @@ impl Tally {
 
     /// An operation that was put to this lane has ended.
     pub(crate) fn end(&mut self, lane: u32) {
-        self.shared.take_open(lane);
+        if let Some(count) = self.lanes.get_mut(lane as usize) {
+            *count = count.saturating_sub(1);
+            self.shared.set_open(self.worker, lane, *count);
+        }
         self.open = self.open.saturating_sub(1);
         if self.open == 0 {
             self.shared.clear_since(self.worker);
