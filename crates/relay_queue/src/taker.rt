@@ -15,7 +15,7 @@ use std::sync::Wait;
 
 // The number of tries before the taker sleeps in the channel. Waking a sleeper takes a system call,
 // so what comes soon is taken sooner if the taker waits a little first.
-const TRIES: u32 = 100;
+const TRIES: u32 = 128;
 
 /// The taker's end of a queue. Contracts see its queue, its number of senders, and the list of what
 /// was taken.
