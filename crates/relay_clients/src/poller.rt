@@ -7,7 +7,7 @@ use crate::parking::{Parking, give};
 use crate::places::{CONNECTIONS, Places};
 use crate::room::Room;
 use crate::signals::Signals;
-use crossbeam_channel::{Receiver, Sender, TryRecvError, bounded};
+use crossbeam_channel::{Receiver, Sender, TryRecvError, unbounded};
 use mio::unix::SourceFd;
 use mio::{Events, Interest, Poll, Registry, Token, Waker};
 use slab::Slab;
@@ -229,8 +229,10 @@ impl Poller {
         let poll = Poll::new(net)?;
         watch_entrances(poll.registry(), &parts.entrances)?;
         let waker = Arc::new(alloc, Waker::new(poll.registry(), WAKER)?)?;
-        let (sender, inbox) = bounded::<Client, Global>(alloc, CONNECTIONS)?;
-        let (ready, next) = bounded::<Client, Global>(alloc, CONNECTIONS)?;
+        // Neither ever has more than the connections that are open. A channel with places for all of them
+        // would come to take the memory of each place.
+        let (sender, inbox) = unbounded::<Client, Global>(alloc)?;
+        let (ready, next) = unbounded::<Client, Global>(alloc)?;
         let poller = Poller {
             alloc,
             poll,
