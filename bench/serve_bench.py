@@ -2,6 +2,7 @@
 to it, directly to that server, and to a relay in plain Rust whose lanes only hand requests on: what any relay with lanes takes. Then many
 clients that write single documents, to an index that runs few requests at a time; and a thousand idle connections beside others."""
 import contextlib
+import os
 import re
 import resource
 import socket
@@ -33,13 +34,13 @@ IDLE, BESIDE, IDLE_MEMORY_GOAL, IDLE_RATE_GOAL = 1_000, 16, 40_000_000, 0.95
 
 
 class Relay:
-    """A running `relay serve` in front of a server."""
+    """A running `relay serve` in front of a server, with these options, and these variables in its environment."""
 
-    def __init__(self, relay, server, *options):
+    def __init__(self, relay, server, *options, **variables):
         with socket.create_server(("127.0.0.1", 0)) as free:
             self.port = str(free.getsockname()[1])
         words = ["serve", "--listen", "127.0.0.1:" + self.port, "--to", "127.0.0.1:" + server.port, "--epoch", "0", *options]
-        self.process = subprocess.Popen([relay, *words], stdin=subprocess.PIPE, stdout=subprocess.PIPE, stderr=subprocess.PIPE, text=True)
+        self.process = subprocess.Popen([relay, *words], env={**os.environ, **variables}, stdin=subprocess.PIPE, stdout=subprocess.PIPE, stderr=subprocess.PIPE, text=True)
         if not self.process.stderr.readline().startswith("listening on"):
             sys.exit("relay serve has not begun")
 
