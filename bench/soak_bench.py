@@ -1,9 +1,10 @@
 """Measures the memory of `relay serve` over many terms: bulk requests from a few clients, each with documents of its own, of which the
 index refuses one in a hundred, so that each term has reports. Every client opens its connection again from time to time. The relay's
-environment is that of `examples/serve/relay.service`.
+variables are those of `examples/serve/relay.service`.
 
 It is not among the parts that `make bench` measures: `python3 bench/run.py soak` takes a minute or two.
 """
+import os
 import re
 import subprocess
 import sys
@@ -20,8 +21,14 @@ CLIENTS, REQUESTS, OPERATIONS = 4, 3_000, 500
 TERM, EVERY, TERMS = 100_000, 10, 50
 # The goal: the maximum ratio of the last reading to the first one.
 GOAL = 1.05
-# How many heaps the C library has.
-ARENAS = "4"
+# Its variables are the relay's.
+UNIT = os.path.join(os.path.dirname(plain_rust.BENCH), "examples", "serve", "relay.service")
+
+
+def variables():
+    """Returns the variables of the unit of systemd, by name."""
+    with open(UNIT, encoding="utf-8") as file:
+        return dict(re.findall(r"^Environment=(\w+)=(.*)$", file.read(), re.M))
 
 
 def readings(relay, found):
@@ -38,7 +45,7 @@ def measure(folder, program):
         print("soak: not measured: cargo, which builds the server, is not installed")
         return
     with Server(bulk, 0) as server:
-        relay, found = Relay(program, server, "--turn-after", str(TERM), MALLOC_ARENA_MAX=ARENAS), {}
+        relay, found = Relay(program, server, "--turn-after", str(TERM), **variables()), {}
         begun = relay.memory()
         reading = threading.Thread(target=readings, args=(relay, found))
         reading.start()

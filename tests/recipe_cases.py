@@ -230,8 +230,8 @@ def unit():
         server, port = Server(delay=lambda: 0.5), free_port()
         start = lines["ExecStart"].replace("127.0.0.1:9300", "127.0.0.1:%d" % port).replace("127.0.0.1:9201", "127.0.0.1:%d" % server.port)
         start = start.replace("/var/lib/relay", folder).replace("exec relay", "exec " + RELAY)
-        environment = {**os.environ, **dict([lines["Environment"].split("=", 1)])}
-        process = subprocess.Popen(["sh", "-c", "exec " + start], env=environment, stdin=subprocess.DEVNULL, stdout=subprocess.PIPE, stderr=subprocess.PIPE)
+        name, value = lines["Environment"].split("=", 1)
+        process = subprocess.Popen(["sh", "-c", "exec " + start], env={**os.environ, name: value}, stdin=subprocess.DEVNULL, stdout=subprocess.PIPE, stderr=subprocess.PIPE)
         process.stderr.readline()
         answers = []
 
