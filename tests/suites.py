@@ -13,7 +13,7 @@ TESTS = os.path.dirname(os.path.abspath(__file__))
 # The suites in which time does not matter, the longest first.
 TIMELESS = (("serve_kills",), ("pick",), ("serve_clients",), ("scripts",), ("lines", "apply", "command_line"), ("world",))
 # Sets of the others, each of which takes a minute or two; the rest are a set too.
-TIMED = (("stop", "reply"), ("run", "outage", "several"), ("epoch", "option", "progress"), ("serve_hostile",), ("serve_fair",), ("serve_desk",), ("state",), ("minute",), ("recipe",))
+TIMED = (("stop", "reply"), ("run", "outage", "several"), ("epoch", "option", "progress"), ("serve",), ("serve_hostile",), ("serve_fair",), ("serve_desk",), ("state",), ("minute",), ("recipe",))
 REST = ("--except", *sum(TIMELESS + TIMED, ()))
 
 

@@ -7,3 +7,5 @@ mod index;
 mod ndjson;
 #[cfg(test)]
 mod results;
+#[cfg(test)]
+mod writes;

@@ -284,15 +284,6 @@ const BY_CLOSE: &[Step<'static>] = &[
     Step::Sends(&[("1", 1)]),
 ];
 
-const WAITING: &[&[Step<'static>]] = &[BY_TIME, BY_FLUSH, BY_CLOSE];
-
-#[test]
-fn batches_that_wait(rt: HostRuntime) {
-    for steps in WAITING {
-        goes(&rt, rt.alloc(), LINGERING, *steps, &[]);
-    }
-}
-
 const TWO_AT_ONCE: RelayConfig = RelayConfig {
     limits: Limits {
         count: 2,
@@ -318,7 +309,16 @@ const FULL_BATCHES: &[Step<'static>] = &[
     Step::Sends(&[("1", 2), ("3", 4)]),
 ];
 
+const WAITING: &[(RelayConfig, &[Step<'static>])] = &[
+    (LINGERING, BY_TIME),
+    (LINGERING, BY_FLUSH),
+    (LINGERING, BY_CLOSE),
+    (TWO_AT_ONCE, FULL_BATCHES),
+];
+
 #[test]
-fn batches_that_are_full(rt: HostRuntime) {
-    goes(&rt, rt.alloc(), TWO_AT_ONCE, FULL_BATCHES, &[]);
+fn batches_that_wait(rt: HostRuntime) {
+    for (config, steps) in WAITING {
+        goes(&rt, rt.alloc(), *config, *steps, &[]);
+    }
 }

@@ -48,11 +48,6 @@ const THREE_THEN_ONE: &[Step<'static>] = &[
     }),
 ];
 
-#[test]
-fn three_then_one(rt: HostRuntime) {
-    goes(&rt, rt.alloc(), CONFIG, THREE_THEN_ONE, &[]);
-}
-
 // A repeat whose conflict states its own version is settled, and one whose conflict states another is
 // reported, with that version; so is a first conflict, even if it states its own.
 const STATED: &[Step<'static>] = &[
@@ -73,11 +68,6 @@ const STATED: &[Step<'static>] = &[
     Step::Items(&[Entry::Stated("3", 3)], [0, 0, 1, 0]),
 ];
 
-#[test]
-fn stated_versions(rt: HostRuntime) {
-    goes(&rt, rt.alloc(), CONFIG, STATED, &[(2, 3, 7), (3, 3, 3)]);
-}
-
 // A lost reply, and then a conflict with its own version; a first conflict is reported.
 const CONFLICTS: &[Step<'static>] = &[
     Step::Put("1", "{\"a\":1}"),
@@ -94,11 +84,6 @@ const CONFLICTS: &[Step<'static>] = &[
     Step::Held(0),
 ];
 
-#[test]
-fn conflicts(rt: HostRuntime) {
-    goes(&rt, rt.alloc(), CONFIG, CONFLICTS, &[(2, 3, 0)]);
-}
-
 // The next operation of a document waits until the earlier one is settled.
 const ONE_AT_A_TIME: &[Step<'static>] = &[
     Step::Put("1", "{\"a\":1}"),
@@ -113,11 +98,6 @@ const ONE_AT_A_TIME: &[Step<'static>] = &[
     Step::Sends(&[("1", 2)]),
     Step::Items(&CREATED, [1, 0, 0, 0]),
 ];
-
-#[test]
-fn one_of_a_document_at_a_time(rt: HostRuntime) {
-    goes(&rt, rt.alloc(), CONFIG, ONE_AT_A_TIME, &[]);
-}
 
 const TWO_ATTEMPTS: RelayConfig = RelayConfig {
     attempts: 2,
@@ -136,11 +116,6 @@ const GIVEN_UP: &[Step<'static>] = &[
     Step::Sends(&[("1", 2)]),
     Step::Items(&[Entry::Delete("1", 200)], [1, 0, 0, 0]),
 ];
-
-#[test]
-fn given_up(rt: HostRuntime) {
-    goes(&rt, rt.alloc(), TWO_ATTEMPTS, GIVEN_UP, &[(1, 4, 2)]);
-}
 
 const NINE_ATTEMPTS: RelayConfig = RelayConfig {
     attempts: 9,
@@ -252,11 +227,6 @@ const TOO_OLD: &[Step<'static>] = &[
     Step::Held(0),
 ];
 
-#[test]
-fn given_up_by_age(rt: HostRuntime) {
-    goes(&rt, rt.alloc(), FIVE_TICKS, TOO_OLD, &[(2, 4, 2)]);
-}
-
 // The second document is busy.
 const BUSY: [Entry<'static>; 1] = [Entry::Index("2", 429)];
 
@@ -281,17 +251,6 @@ const HALVED_WHEN_OLD: &[Step<'static>] = &[
     Step::Whole(503, [0, 0, 0, 1]),
     Step::Held(1),
 ];
-
-#[test]
-fn given_up_after_a_halving(rt: HostRuntime) {
-    goes(
-        &rt,
-        rt.alloc(),
-        FIVE_TICKS,
-        HALVED_WHEN_OLD,
-        &[(2, 4, 2), (3, 4, 2)],
-    );
-}
 
 // Replies that do not match count as lost: too few entries, another id, another kind, too many.
 const NO_MATCHES: [&'static [Entry<'static>]; 4] = [
@@ -356,17 +315,6 @@ const REFUSED: &[Step<'static>] = &[
         [0, 0, 2, 0],
     ),
 ];
-
-#[test]
-fn refused_items(rt: HostRuntime) {
-    goes(
-        &rt,
-        rt.alloc(),
-        CONFIG,
-        REFUSED,
-        &[(1, 1, 400), (2, 1, 400)],
-    );
-}
 
 // One attempt for each operation.
 const ONE_ATTEMPT: RelayConfig = RelayConfig {
@@ -446,12 +394,6 @@ const EACH_TOO_LARGE: &[(u64, u8, u32)] = &[
     (5, 2, 413),
 ];
 
-#[test]
-fn requests_too_large(rt: HostRuntime) {
-    goes(&rt, rt.alloc(), ONE_ATTEMPT, HALVED, &[]);
-    goes(&rt, rt.alloc(), ONE_ATTEMPT, HALVED_AWAY, EACH_TOO_LARGE);
-}
-
 // Batches of two, which wait for three ticks, one in flight.
 const TWO: RelayConfig = RelayConfig {
     limits: Limits {
@@ -500,4 +442,32 @@ const GATHERED: &[Step<'static>] = &[
 #[test]
 fn gathered_in_flight(rt: HostRuntime) {
     goes(&rt, rt.alloc(), TWO, GATHERED, &[(3, 2, 400), (4, 2, 400)]);
+}
+
+/// A config, the steps of a schedule, and the reports at its end.
+type Schedule = (
+    RelayConfig,
+    &'static [Step<'static>],
+    &'static [(u64, u8, u32)],
+);
+
+const SCHEDULES: &[Schedule] = &[
+    (CONFIG, THREE_THEN_ONE, &[]),
+    (CONFIG, STATED, &[(2, 3, 7), (3, 3, 3)]),
+    (CONFIG, CONFLICTS, &[(2, 3, 0)]),
+    (CONFIG, ONE_AT_A_TIME, &[]),
+    (TWO_ATTEMPTS, GIVEN_UP, &[(1, 4, 2)]),
+    (FIVE_TICKS, TOO_OLD, &[(2, 4, 2)]),
+    (FIVE_TICKS, HALVED_WHEN_OLD, &[(2, 4, 2), (3, 4, 2)]),
+    (CONFIG, REFUSED, &[(1, 1, 400), (2, 1, 400)]),
+    (ONE_ATTEMPT, HALVED, &[]),
+    (ONE_ATTEMPT, HALVED_AWAY, EACH_TOO_LARGE),
+];
+
+// Each step of each schedule has its result.
+#[test]
+fn worked_schedules(rt: HostRuntime) {
+    for (config, steps, reports) in SCHEDULES {
+        goes(&rt, rt.alloc(), *config, *steps, *reports);
+    }
 }

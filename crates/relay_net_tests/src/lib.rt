@@ -1,7 +1,7 @@
 //! Tests of `relay_net`: requests over the loopback, from a wire's dial to the stand-in server's
 //! listener and back, also to a server in its own thread; addresses that cannot be dialled or
 //! listened on; names with several addresses; dials that try again; and reads that wait too long. In
-//! a folder those of `relay_stub`.
+//! folders those of `relay_stub` and of `relay_progress`.
 #![tactic(auto)]
 
 #[cfg(test)]
@@ -14,6 +14,8 @@ mod loopback;
 mod names;
 #[cfg(test)]
 mod patience;
+#[cfg(test)]
+mod progress;
 #[cfg(test)]
 mod stub;
 #[cfg(test)]

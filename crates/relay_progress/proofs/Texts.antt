@@ -1,5 +1,5 @@
 -- Texts that are added piece by piece.
-use Rattle.std.proofs.Common.{◌≡◌, ℕ, if◌then◌else◌, Ok, Err, OnOk, List, ◌++◌, ap, ◌∙◌, append_assoc}
+use Rattle.std.proofs.Common.{◌≡◌, ℕ, if◌then◌else◌, Ok, Err, OnOk, List, ◌++◌, ap, sym, ◌∙◌, append_assoc}
 use Rattle.std.specs.Prelude.{Result, is_ok}
 use Rattle.std.specs.declared.alloc.AllocError.{AllocError}
 
@@ -17,7 +17,11 @@ pub with_last : (r : Result Unit AllocError) (new mid text front end : List ℕ)
 with_last (Ok x) new mid text front end n m = n ∙ ap (λ t. t ++ end) m ∙ append_assoc text front end
 with_last (Err e) new mid text front end n m = tt
 
--- four pieces
-pub four : (r : Result Unit AllocError) (new third second first text a b c d : List ℕ) → OnOk r (new ≡ third ++ d) → third ≡ second ++ c → second ≡ first ++ b → first ≡ text ++ a
-    → OnOk r (new ≡ text ++ (((a ++ b) ++ c) ++ d))
-four r new third second first text a b c d n t s f = with_last r new third text ((a ++ b) ++ c) d n (more third second text (a ++ b) c t (more second first text a b s f))
+-- words and a number more
+pub two_more : (new mid text front words number : List ℕ) → new ≡ mid ++ (words ++ number) → mid ≡ text ++ front → new ≡ text ++ ((front ++ words) ++ number)
+two_more new mid text front words number n m = n ∙ sym (append_assoc mid words number) ∙ ap (λ t. (t ++ words) ++ number) m ∙ ap (λ t. t ++ number) (append_assoc text front words) ∙ append_assoc text (front ++ words) number
+
+-- the same if they were added last
+pub with_count : (r : Result Unit AllocError) (new mid text front words number : List ℕ) → OnOk r (new ≡ mid ++ (words ++ number)) → mid ≡ text ++ front → OnOk r (new ≡ text ++ ((front ++ words) ++ number))
+with_count (Ok x) new mid text front words number n m = two_more new mid text front words number n m
+with_count (Err e) new mid text front words number n m = tt

@@ -4,7 +4,7 @@ ghost use Rattle.relay_progress.specs.Events.{conflicts_text, down_text, end_tex
 ghost use Rattle.relay_progress.specs.Events.{kind_text, reason_name, refusal_text, seconds_text};
 ghost use Rattle.relay_progress.specs.Events.{start_text, too_large_text, up_text, whole_request};
 
-use crate::line::Progress;
+use crate::line::{Progress, add_count};
 use crate::refusals::Refusal;
 use relay_lane::Loss;
 use relay_words::add_number;
@@ -75,8 +75,7 @@ fn add_up(text: &mut Vec<u8>, millis: u64, sends: u64) -> Result<(), AllocError>
 {
     text.extend_from_slice(b"up again after ")?;
     add_seconds(text, millis)?;
-    text.extend_from_slice(b" s, sends ")?;
-    add_number(text, sends)
+    add_count(text, b" s, sends ", sends)
 }
 
 fn add_too_large(text: &mut Vec<u8>) -> Result<(), AllocError>
@@ -88,17 +87,14 @@ fn add_too_large(text: &mut Vec<u8>) -> Result<(), AllocError>
 fn add_conflicts(text: &mut Vec<u8>, count: u64) -> Result<(), AllocError>
     ensures { OnOk result (text.new.items ≡ text.old.items ++ conflicts_text count) }
 {
-    text.extend_from_slice(b"conflicts: ")?;
-    add_number(text, count)
+    add_count(text, b"conflicts: ", count)
 }
 
 fn add_start(text: &mut Vec<u8>, epoch: u32, lanes: u32) -> Result<(), AllocError>
     ensures { OnOk result (text.new.items ≡ text.old.items ++ start_text epoch lanes) }
 {
-    text.extend_from_slice(b"start: epoch ")?;
-    add_number(text, epoch as u64)?;
-    text.extend_from_slice(b", lanes ")?;
-    add_number(text, lanes as u64)
+    add_count(text, b"start: epoch ", epoch as u64)?;
+    add_count(text, b", lanes ", lanes as u64)
 }
 
 /// Adds what is said of something. `AllocError`: allocation failed; part of it may be there.
@@ -139,8 +135,7 @@ pub(crate) fn add_refusal(text: &mut Vec<u8>, refusal: &Refusal) -> Result<(), A
     ensures { OnOk result (text.new.items ≡ text.old.items
         ++ refusal_text refusal.now.status (option_map string_bytes refusal.now.kind)) }
 {
-    text.extend_from_slice(b"refused: ")?;
-    add_number(text, refusal.status as u64)?;
+    add_count(text, b"refused: ", refusal.status as u64)?;
     add_kind(text, &refusal.kind)
 }
 
@@ -149,14 +144,9 @@ pub(crate) fn add_refusal(text: &mut Vec<u8>, refusal: &Refusal) -> Result<(), A
 pub(crate) fn add_end(text: &mut Vec<u8>, progress: &Progress) -> Result<(), AllocError>
     ensures { OnOk result (text.new.items ≡ text.old.items ++ end_text progress.now) }
 {
-    text.extend_from_slice(b"end: sent ")?;
-    add_number(text, progress.operations)?;
-    text.extend_from_slice(b" operations in ")?;
-    add_number(text, progress.requests)?;
-    text.extend_from_slice(b" requests, settled ")?;
-    add_number(text, progress.settled)?;
-    text.extend_from_slice(b", refused ")?;
-    add_number(text, progress.refused)?;
-    text.extend_from_slice(b", repeats ")?;
-    add_number(text, progress.repeats)
+    add_count(text, b"end: sent ", progress.operations)?;
+    add_count(text, b" operations in ", progress.requests)?;
+    add_count(text, b" requests, settled ", progress.settled)?;
+    add_count(text, b", refused ", progress.refused)?;
+    add_count(text, b", repeats ", progress.repeats)
 }

@@ -1,5 +1,5 @@
 //! The progress line.
-ghost use Rattle.std.specs.Prelude.{◌≡◌, ◌++◌, IfOk, OnOk, true};
+ghost use Rattle.std.specs.Prelude.{◌≡◌, ◌++◌, IfOk, OnOk, true, decimal};
 ghost use Rattle.relay_progress.specs.Lines.{ago_text, answer_text, counts_text};
 ghost use Rattle.relay_progress.specs.Lines.{progress_text, read_text, share};
 ghost use Rattle.relay_progress.specs.Lines.{trouble_name, trouble_text, written_text};
@@ -129,22 +129,24 @@ fn add_read(text: &mut Vec<u8>, read: u64, size: Option<u64>) -> Result<(), Allo
     }
 }
 
+// Adds these words and a number.
+pub(crate) fn add_count(text: &mut Vec<u8>, words: &[u8], number: u64) -> Result<(), AllocError>
+    ensures { OnOk result (text.new.items ≡ text.old.items ++ (words.now ++ decimal number)) }
+{
+    text.extend_from_slice(words)?;
+    add_number(text, number)
+}
+
 // Adds the part about requests and operations.
 fn add_counts(text: &mut Vec<u8>, progress: &Progress) -> Result<(), AllocError>
     ensures { OnOk result (text.new.items ≡ text.old.items ++ counts_text progress.now) }
 {
-    text.extend_from_slice(b", sent ")?;
-    add_number(text, progress.operations)?;
-    text.extend_from_slice(b" operations in ")?;
-    add_number(text, progress.requests)?;
-    text.extend_from_slice(b" requests, settled ")?;
-    add_number(text, progress.settled)?;
-    text.extend_from_slice(b", refused ")?;
-    add_number(text, progress.refused)?;
-    text.extend_from_slice(b", repeats ")?;
-    add_number(text, progress.repeats)?;
-    text.extend_from_slice(b", out ")?;
-    add_number(text, progress.out)
+    add_count(text, b", sent ", progress.operations)?;
+    add_count(text, b" operations in ", progress.requests)?;
+    add_count(text, b" requests, settled ", progress.settled)?;
+    add_count(text, b", refused ", progress.refused)?;
+    add_count(text, b", repeats ", progress.repeats)?;
+    add_count(text, b", out ", progress.out)
 }
 
 // Adds how long ago the last answer arrived.

@@ -1,6 +1,6 @@
 -- A reply in the usual form says what its entries say.
 use denote.Ref.{Bor}
-use Rattle.std.proofs.Common.{◌≡◌, ℕ, ◌^◌, ◌<◌, ◌≤◌, ◌+◌, ◌%◌, List, [], ◌∷◌, ◌++◌, Option, Some, None, IsUtf8, true, false, refl, sym, ap, ◌∙◌, subst, arith, rules, lit≤, codes, decimal, append_assoc, append-nil, option_and_then}
+use Rattle.std.proofs.Common.{◌≡◌, ℕ, ◌^◌, ◌<◌, ◌≤◌, ◌+◌, ◌%◌, List, [], ◌∷◌, ◌++◌, Option, Some, None, IsUtf8, true, false, refl, sym, ap, ◌∙◌, subst, arith, rules, lit≤, codes, decimal, append_assoc, append-nil, option_and_then, IfSome}
 use Rattle.std.specs.Prelude.{map}
 use Rattle.std.proofs.lemmas.Grind.{common_steps}
 use Rattle.std.proofs.lemmas.Str.{IsUtf8-append}
@@ -64,6 +64,13 @@ first_one bytes took new rest later e fits head entry usual grown = record {
   text = head ∙ ap (head_text took) entry;
   says = grown;
 }
+
+-- the same of what was read at the front, if that is a reply so far
+pub first_read : (r : Option (Bor (List ℕ))) (bytes : List ℕ) (took : ℕ) (old new : List Outcome) (rest : List ℕ) → took < 2 ^ 64 → bytes ≡ head_text took rest → old ≡ []
+    → IfSome r (λ later. (e : Entry) × IsUsual e × (rest ≡ entry_text e later.now) × (new ≡ old ++ outcome_of e ∷ [])) → IfSome r (λ later. HasRead bytes new later.now)
+first_read None bytes took old new rest fits head empty h = tt
+first_read (Some later) bytes took old new rest fits head empty h =
+    first_one bytes took new rest later.now h.0 fits head h.2 h.1 (h.3 ∙ ap (λ os. os ++ outcome_of h.0 ∷ []) empty)
 
 -- ---- an entry as a JSON value
 

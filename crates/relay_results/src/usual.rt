@@ -1,6 +1,6 @@
 //! Replies in the usual form, which are read without a JSON reader.
 ghost use Rattle.std.specs.Prelude.{◌≡◌, ◌≤◌, ◌<◌, ◌∷◌, ◌++◌, []};
-ghost use Rattle.std.specs.Prelude.{codes, IsTrue, IfSome};
+ghost use Rattle.std.specs.Prelude.{codes, decimal, IsTrue, IfSome};
 ghost use Rattle.relay_json.specs.Plain.{IsPlain};
 ghost use Rattle.relay_results.specs.declared.usual.Entry.{Entry as EntryModel};
 ghost use Rattle.relay_results.specs.Replies.{IsBulkReply};
@@ -85,11 +85,18 @@ fn take_first<'t>(alloc: Global, bytes: &'t [u8], outcomes: &mut Vec<Outcome>) -
     take_outcome(alloc, rest, outcomes)
 }
 
+// A number after this mark, and what follows it.
+fn take_number<'t>(bytes: &'t [u8], mark: &[u8]) -> Option<(u64, &'t [u8])>
+    ensures { IfSome result (λ n. bytes.now ≡ mark.now ++ (decimal n.0 ++ n.1.now)) }
+{
+    take_decimal(after(bytes, mark)?)
+}
+
 // The time in milliseconds that the reply gives, and its entries with what follows them.
 fn take_head(bytes: &[u8]) -> Option<(u64, &[u8])>
     ensures { IfSome result (λ h. bytes.now ≡ head_text h.0 h.1.now) }
 {
-    let (took, rest) = take_decimal(after(bytes, b"{\"took\":")?)?;
+    let (took, rest) = take_number(bytes, b"{\"took\":")?;
     Some((took, after(rest, b",\"errors\":false,\"items\":[")?))
 }
 
@@ -194,7 +201,7 @@ fn take_applied(bytes: &[u8]) -> Option<(Applied<'_>, &[u8])>
     ensures text { IfSome result (λ a. bytes.now ≡ applied_text a.0 a.1.now) }
     ensures parts { IfSome result (λ a. IsApplied a.0) }
 {
-    let (version, rest) = take_decimal(after(bytes, b"\"_version\":")?)?;
+    let (version, rest) = take_number(bytes, b"\"_version\":")?;
     let (result, rest) = take_text(after(rest, b",\"result\":\"")?)?;
     Some((Applied { version, result }, rest))
 }
@@ -203,9 +210,9 @@ fn take_shards(bytes: &[u8]) -> Option<(Shards, &[u8])>
     ensures text { IfSome result (λ s. bytes.now ≡ shards_text s.0 s.1.now) }
     ensures parts { IfSome result (λ s. AreShards s.0) }
 {
-    let (total, rest) = take_decimal(after(bytes, b"\"_shards\":{\"total\":")?)?;
-    let (successful, rest) = take_decimal(after(rest, b",\"successful\":")?)?;
-    let (failed, rest) = take_decimal(after(rest, b",\"failed\":")?)?;
+    let (total, rest) = take_number(bytes, b"\"_shards\":{\"total\":")?;
+    let (successful, rest) = take_number(rest, b",\"successful\":")?;
+    let (failed, rest) = take_number(rest, b",\"failed\":")?;
     let rest = after(rest, b"},")?;
     let shards = Shards {
         total,
@@ -219,9 +226,9 @@ fn take_place(bytes: &[u8]) -> Option<(Place, &[u8])>
     ensures text { IfSome result (λ p. bytes.now ≡ place_text p.0 p.1.now) }
     ensures parts { IfSome result (λ p. IsPlace p.0) }
 {
-    let (seq_no, rest) = take_decimal(after(bytes, b"\"_seq_no\":")?)?;
-    let (primary_term, rest) = take_decimal(after(rest, b",\"_primary_term\":")?)?;
-    let (status, rest) = take_decimal(after(rest, b",\"status\":")?)?;
+    let (seq_no, rest) = take_number(bytes, b"\"_seq_no\":")?;
+    let (primary_term, rest) = take_number(rest, b",\"_primary_term\":")?;
+    let (status, rest) = take_number(rest, b",\"status\":")?;
     let rest = after(rest, b"}}")?;
     let place = Place {
         seq_no,

@@ -1,7 +1,8 @@
 //! Writing replies.
-ghost use Rattle.std.specs.Prelude.{◌≡◌, IfOk, string_bytes};
-ghost use Rattle.serde_json.specs.Data.{object, array};
-ghost use Rattle.serde_json.specs.View.{view};
+ghost use Rattle.std.specs.Prelude.{◌≡◌, IfOk, OnOk, codes, string_bytes};
+ghost use Rattle.serde_json.specs.Data.{object, array, string, number, unsigned};
+ghost use Rattle.serde_json.specs.Data.{put as with_member};
+ghost use Rattle.serde_json.specs.View.{view, members_view};
 ghost use Rattle.std.specs.List.{list_any};
 ghost use Rattle.relay_results.specs.Done.{failure, result_name, error_fields, fields_by};
 ghost use Rattle.relay_results.specs.Done.{entry_data};
@@ -11,7 +12,7 @@ ghost use Rattle.relay_results.specs.Replies.{IsBulkReply};
 
 use crate::done::{DoneResult, ItemDone, conflict_reason};
 use relay_action::ActionKind;
-use serde_json::{Value, json};
+use serde_json::{Map, Value, json, put};
 use std::alloc::{AllocError, Global};
 
 // The name of a result, if the write was applied.
@@ -41,28 +42,86 @@ fn error_value(alloc: Global, done: &ItemDone, kind: &str) -> Result<Value, Allo
     }
 }
 
+// Adds a member whose value is a string.
+fn add_text(
+    alloc: Global,
+    members: &mut Map<String, Value>,
+    name: &str,
+    text: &str,
+) -> Result<(), AllocError>
+    ensures { OnOk result (members_view members.new.entries
+        ≡ with_member name.now (string text.now) (members_view members.old.entries)) }
+{
+    let value = Value::try_from_str(alloc, text)?;
+    put(members, alloc, name, value)
+}
+
+fn add_number(
+    alloc: Global,
+    members: &mut Map<String, Value>,
+    name: &str,
+    value: u64,
+) -> Result<(), AllocError>
+    ensures { OnOk result (members_view members.new.entries
+        ≡ with_member name.now (number (unsigned value)) (members_view members.old.entries)) }
+{
+    put(members, alloc, name, Value::from(value))
+}
+
+// Adds the members of the entry of an item for which nothing was done.
+fn add_failed(
+    alloc: Global,
+    members: &mut Map<String, Value>,
+    done: &ItemDone,
+    error: Value,
+) -> Result<(), AllocError>
+    ensures { OnOk result (members_view members.new.entries
+        ≡ with_member (codes "status") (number (unsigned done.now.status))
+        (with_member (codes "error") (view error)
+        (with_member (codes "_index") (string done.now.key.index)
+        (with_member (codes "_id") (string done.now.key.id) (members_view members.old.entries))))) }
+{
+    add_text(alloc, members, "_id", done.key.id())?;
+    add_text(alloc, members, "_index", done.key.index())?;
+    put(members, alloc, "error", error)?;
+    add_number(alloc, members, "status", u64::from(done.status))
+}
+
+// Adds the members of the entry of an item that was applied.
+fn add_applied(
+    alloc: Global,
+    members: &mut Map<String, Value>,
+    done: &ItemDone,
+) -> Result<(), AllocError>
+    ensures { OnOk result (members_view members.new.entries
+        ≡ with_member (codes "status") (number (unsigned done.now.status))
+        (with_member (codes "result") (string (result_name done.now.result))
+        (with_member (codes "_version") (number (unsigned done.now.version))
+        (with_member (codes "_seq_no") (number (unsigned done.now.seq))
+        (with_member (codes "_index") (string done.now.key.index)
+        (with_member (codes "_id") (string done.now.key.id) (members_view members.old.entries))))))) }
+{
+    add_text(alloc, members, "_id", done.key.id())?;
+    add_text(alloc, members, "_index", done.key.index())?;
+    add_number(alloc, members, "_seq_no", done.seq)?;
+    add_number(alloc, members, "_version", done.version)?;
+    add_text(alloc, members, "result", result_name(done.result))?;
+    add_number(alloc, members, "status", u64::from(done.status))
+}
+
 // The members of an item's entry.
 fn fields_value(alloc: Global, done: &ItemDone) -> Result<Value, AllocError>
     ensures { IfOk result (λ v. view v ≡ object (fields_by done.now (failure done.now.result))) }
 {
-    let id = done.key.id();
-    let index = done.key.index();
-    let status = done.status;
+    let mut members = Map::new(alloc);
     match done.result.failure() {
         Some(kind) => {
             let error = error_value(alloc, done, kind)?;
-            json!(in alloc; {"_id": id, "_index": index, "error": error, "status": status})
+            add_failed(alloc, &mut members, done, error)?;
         }
-        None => {
-            let seq = done.seq;
-            let version = done.version;
-            let name = result_name(done.result);
-            json!(in alloc; {
-                "_id": id, "_index": index, "_seq_no": seq, "_version": version,
-                "result": name, "status": status
-            })
-        }
+        None => add_applied(alloc, &mut members, done)?,
     }
+    Ok(Value::Object(members))
 }
 
 fn entry_value(alloc: Global, done: &ItemDone) -> Result<Value, AllocError>

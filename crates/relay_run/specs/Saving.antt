@@ -99,6 +99,10 @@ abbrev pub AllGoOnFrom : List ℕ → List Saver → Type 0
 AllGoOnFrom before [] = Unit {0}
 AllGoOnFrom before (s ∷ ss) = (s.before ≡ before) × AllGoOnFrom before ss
 
+-- one more was added, which was told nothing, numbers on from these and tells by this seat
+abbrev pub AddsOne : List Saver → List Saver → List ℕ → Seat → Type 0
+AddsOne old new before via = (s : Saver) × (new ≡ old ++ s ∷ []) × ((s.applied ≡ []) × (s.reported ≡ [])) × (s.before ≡ before) × (s.via ≡ via)
+
 -- whether a write of a report failed for one of them
 abbrev pub SayFailed : List Saver → Bool → Type 0
 SayFailed ss true = (s : Saver) × Mem s ss × (s.failed ≡ true)

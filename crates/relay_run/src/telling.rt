@@ -1,8 +1,8 @@
 //! What a lane of a run tells by: it saves each report as soon as it arises.
-ghost use Rattle.std.specs.Prelude.{◌≡◌, ◌++◌, ◌∷◌, [], IfOk, OnErr, map, true, vec_len};
+ghost use Rattle.std.specs.Prelude.{◌≡◌, ◌+◌, ◌++◌, ◌∷◌, [], IfOk, OnErr, OnOk, map, true, vec_len};
 ghost use Rattle.relay_keeping.specs.Tellers.{seat};
 ghost use Rattle.relay_run.specs.Saving.{IsExactly, KeepsOneMore, GoesOn, AreUnwritten, AreNew};
-ghost use Rattle.relay_run.specs.Saving.{AllGoOnFrom, AllKeep, AreUntold, SayFailed, lane_seat, seat_of};
+ghost use Rattle.relay_run.specs.Saving.{AddsOne, AllGoOnFrom, AllKeep, AreUntold, SayFailed, lane_seat, seat_of};
 
 use crate::numbering::Numbering;
 use crate::saying::say;
@@ -185,6 +185,55 @@ fn save<P: ByteOut>(
     Ok(!say(file, &line))
 }
 
+// Adds what a lane tells by that saves its reports in this file, to which nothing was written yet, and
+// tells by this which operations are settled.
+fn add_tell<P: ByteOut + Drop>(
+    alloc: Global,
+    tells: &mut Vec<SavingTell<P>>,
+    file: P,
+    numbering: Numbering,
+    stop: &Option<SharedStop>,
+    settled: LaneTelling,
+) -> Result<(), AllocError>
+    requires file { IsExactly (P.written file) [] × (P.failed file ≡ 0) }
+    requires settled { (settled.applied ≡ []) × (settled.saved ≡ []) }
+    ensures added { OnOk result (AddsOne tells.old.items tells.new.items numbering.before
+        (seat settled.end)) }
+    ensures len { OnOk result (vec_len tells.new ≡ vec_len tells.old + 1) }
+{
+    let stop = share_stop(stop)?;
+    tells.push(SavingTell::new(alloc, file, numbering, stop, settled))?;
+    Ok(())
+}
+
+// Adds what a lane tells by for each of these files.
+fn add_tells<P: ByteOut + Drop>(
+    alloc: Global,
+    tells: &mut Vec<SavingTell<P>>,
+    files: Vec<P>,
+    numbering: Numbering,
+    stop: &Option<SharedStop>,
+    settled: Vec<LaneTelling>,
+) -> Result<(), AllocError>
+    requires none { tells.old.items ≡ [] }
+    requires files { AreUnwritten P.written P.failed files.items }
+    requires settled { AreUntold settled.items }
+    requires lanes { vec_len settled ≡ vec_len files }
+    ensures count { OnOk result (vec_len tells.new ≡ vec_len files) }
+    ensures seats { OnOk result (map seat_of tells.new.items ≡ map lane_seat settled.items) }
+    ensures new { OnOk result (AreNew tells.new.items) }
+    ensures before { OnOk result (AllGoOnFrom numbering.before tells.new.items) }
+{
+    let mut settled = settled.into_iter();
+    for file in files {
+        match settled.next() {
+            Some(settled) => add_tell(alloc, tells, file, numbering, stop, settled)?,
+            None => return Err(AllocError),
+        }
+    }
+    Ok(())
+}
+
 /// For each of these files, to which nothing was written yet, what a lane tells by that saves its
 /// reports there, and tells the stop of them, and by what is at its position which operations are
 /// settled. Its operations are named by this numbering there.
@@ -205,14 +254,7 @@ pub fn make_tells<P: ByteOut + Drop>(
     ensures before { IfOk result (λ v. AllGoOnFrom numbering.before v.items) }
 {
     let mut tells = Vec::with_capacity(alloc, files.len())?;
-    let mut settled = settled.into_iter();
-    for file in files {
-        let stop = share_stop(stop)?;
-        let Some(settled) = settled.next() else {
-            return Err(AllocError);
-        };
-        tells.push(SavingTell::new(alloc, file, numbering, stop, settled))?;
-    }
+    add_tells(alloc, &mut tells, files, numbering, stop, settled)?;
     Ok(tells)
 }
 

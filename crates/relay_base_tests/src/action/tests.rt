@@ -6,69 +6,83 @@ use relay_action::{
 use std::alloc::{AllocError, Global};
 use std::process::Abort;
 
-// A text of this many letters.
-fn letters(rt: &impl Abort, alloc: Global, count: usize) -> String {
-    let mut text = String::new(alloc);
-    for _ in 0..count {
-        text.push('a').expect(rt, "memory");
-    }
-    text
-}
-
 // Whether a text equals its copy.
 fn equals_its_copy(rt: &impl Abort, text: &Text) -> bool {
     let copy = text.copy().expect(rt, "memory");
     copy == *text
 }
 
-fn is_text(rt: &impl Abort, alloc: Global, letters: &str, other: &Text) -> bool {
+// Whether the texts of these letters are equal.
+fn are_equal(rt: &impl Abort, alloc: Global, letters: &str, others: &str) -> bool {
     let text = Text::new(alloc, letters).expect(rt, "memory");
-    text == *other
+    let other = Text::new(alloc, others).expect(rt, "memory");
+    text == other
 }
 
 #[test]
 fn texts_equal_their_copies_alone(rt: HostRuntime) {
-    let text = Text::new(rt.alloc(), "b").expect(&rt, "memory");
-    assert!(rt; text.as_str() == "b" && equals_its_copy(&rt, &text));
-    assert!(rt; is_text(&rt, rt.alloc(), "b", &text) && !is_text(&rt, rt.alloc(), "c", &text));
+    let alloc = rt.alloc();
+    assert!(rt;
+        holds(&rt, alloc, "b")
+            && are_equal(&rt, alloc, "b", "b")
+            && !are_equal(&rt, alloc, "b", "c")
+    );
+}
+
+// Whether a list is these two numbers, also as a vector.
+fn is_list(list: List<i32>, numbers: &[i32]) -> bool {
+    let same = list.as_slice() == numbers;
+    let vector = list.into_vec();
+    same & (vector.as_slice() == numbers)
 }
 
 #[test]
 fn lists_hold_what_they_were_given(rt: HostRuntime) {
-    let list = List::of([3, 1].to_vec(rt.alloc()).expect(&rt, "memory"));
-    assert!(rt; list.as_slice() == [3, 1].as_slice());
-    assert!(rt; list.into_vec().as_slice() == [3, 1].as_slice());
+    let numbers = [3, 1].to_vec(rt.alloc()).expect(&rt, "memory");
+    assert!(rt; is_list(List::of(numbers), &[3, 1]));
 }
 
 const LENGTHS: &[usize] = &[0, 1, 37, 38, 39, 600];
 
 // Whether a text keeps these letters, equals its copy, and is the empty text exactly if there are none.
+fn keeps(rt: &impl Abort, text: &Text, letters: &str) -> bool {
+    let is_empty = *text == Text::empty();
+    text.as_str() == letters && equals_its_copy(rt, text) && is_empty == letters.is_empty()
+}
+
 fn holds(rt: &impl Abort, alloc: Global, letters: &str) -> bool {
     let text = Text::new(alloc, letters).expect(rt, "memory");
-    let is_empty = text == Text::empty();
-    text.as_str() == letters && equals_its_copy(rt, &text) && is_empty == letters.is_empty()
+    keeps(rt, &text, letters)
+}
+
+fn holds_letters(rt: &impl Abort, alloc: Global, count: usize) -> bool {
+    let letters = "a".repeat(alloc, count).expect(rt, "memory");
+    holds(rt, alloc, letters.as_str())
 }
 
 // A text keeps its bytes, inline and on the heap.
 #[test]
 fn texts_of_all_lengths(rt: HostRuntime) {
     for length in LENGTHS {
-        let letters = letters(&rt, rt.alloc(), *length);
-        assert!(rt; holds(&rt, rt.alloc(), letters.as_str()));
+        assert!(rt; holds_letters(&rt, rt.alloc(), *length));
     }
+}
+
+fn key_equals_its_copy(rt: &impl Abort, key: &DocKey) -> bool {
+    let copy = key.copy().expect(rt, "memory");
+    copy == *key
 }
 
 // Whether a key has this index and this id, and equals its copy.
 fn is_key(rt: &impl Abort, alloc: Global, index: &str, id: &str) -> Result<bool, ActionFault> {
     let key = DocKey::new(alloc, index, id)?;
-    let copy = key.copy().expect(rt, "memory");
-    Ok(key.index() == index && key.id() == id && copy == key)
+    Ok(((key.index(), key.id()) == (index, id)) & key_equals_its_copy(rt, &key))
 }
 
 // The same for an index and an id of this many letters.
 fn is_key_of(rt: &impl Abort, alloc: Global, index: usize, id: usize) -> Result<bool, ActionFault> {
-    let index = letters(rt, alloc, index);
-    let id = letters(rt, alloc, id);
+    let index = "a".repeat(alloc, index).expect(rt, "memory");
+    let id = "a".repeat(alloc, id).expect(rt, "memory");
     is_key(rt, alloc, index.as_str(), id.as_str())
 }
 
@@ -106,14 +120,14 @@ const NAMES: &[(ActionFault, &str)] = &[
 fn names_of_faults(rt: HostRuntime) {
     for (fault, name) in NAMES {
         let printed = format!(in rt.alloc(); "{fault}").expect(&rt, "memory");
-        assert!(rt; fault.name() == *name && printed.as_str() == *name);
+        assert!(rt; (fault.name(), printed.as_str()) == (*name, *name));
     }
 }
 
 // Whether a source is this text, and so is its copy.
 fn is_of(rt: &impl Abort, source: &Source, text: &str) -> bool {
     let copy = source.copy().expect(rt, "memory");
-    copy.text() == text && source.text() == text
+    (copy.text(), source.text()) == (text, text)
 }
 
 // Whether an action indexes this text, and so does the copy of its source.
@@ -127,12 +141,12 @@ fn indexes(rt: &impl Abort, action: &Action, text: &str) -> bool {
 // The same for the action made of a text.
 fn is_source(rt: &impl Abort, alloc: Global, text: &str) -> Result<bool, ActionFault> {
     let action = Action::index(alloc, text)?;
-    Ok(indexes(rt, &action, text) && action.kind() == ActionKind::Index)
+    Ok(indexes(rt, &action, text) & (action.kind() == ActionKind::Index))
 }
 
 // The same for a source of this many letters.
 fn is_source_of(rt: &impl Abort, alloc: Global, length: usize) -> Result<bool, ActionFault> {
-    let text = letters(rt, alloc, length);
+    let text = "a".repeat(alloc, length).expect(rt, "memory");
     is_source(rt, alloc, text.as_str())
 }
 
@@ -148,8 +162,11 @@ fn sources_at_their_limits(rt: HostRuntime) {
     for (text, answer) in SOURCES {
         assert!(rt; is_source(&rt, rt.alloc(), *text) == *answer);
     }
-    assert!(rt; is_source_of(&rt, rt.alloc(), 1_048_576) == Ok(true));
-    assert!(rt; is_source_of(&rt, rt.alloc(), 1_048_577) == Err(ActionFault::SourceLong));
+    let limits = (
+        is_source_of(&rt, rt.alloc(), 1_048_576),
+        is_source_of(&rt, rt.alloc(), 1_048_577),
+    );
+    assert!(rt; limits == (Ok(true), Err(ActionFault::SourceLong)));
 }
 
 const KINDS: &[(&str, Option<ActionKind>)] = &[
@@ -173,24 +190,22 @@ fn kinds_of_names(rt: HostRuntime) {
 // Whether the copy of a write of a book equals it.
 fn is_copied(rt: &impl Abort, write: &Write) -> bool {
     let copy = write.copy().expect(rt, "memory");
-    copy.key == write.key && copy.version == 7 && indexes(rt, &copy.action, "{}")
+    (copy.key == write.key) & (copy.version == 7) & indexes(rt, &copy.action, "{}")
 }
 
-#[test]
-fn copies_of_writes_equal_them(rt: HostRuntime) {
+fn copies_write(rt: &impl Abort, alloc: Global) -> bool {
     let write = Write {
-        key: DocKey::new(rt.alloc(), "books", "1").expect(&rt, "a key"),
+        key: DocKey::new(alloc, "books", "1").expect(rt, "a key"),
         version: 7,
-        action: Action::index(rt.alloc(), "{}").expect(&rt, "a source"),
+        action: Action::index(alloc, "{}").expect(rt, "a source"),
     };
-    assert!(rt; is_copied(&rt, &write));
+    is_copied(rt, &write)
 }
 
-#[test]
-fn copies_of_deletes_equal_them(rt: HostRuntime) {
-    let copy = Action::delete().copy().expect(&rt, "memory");
-    assert!(rt; matches!(&copy, Action::Delete));
-    assert!(rt; Action::delete().kind() == ActionKind::Delete);
+fn copies_delete(rt: &impl Abort) -> bool {
+    let copy = Action::delete().copy().expect(rt, "memory");
+    let kinds = (copy.kind(), Action::delete().kind());
+    kinds == (ActionKind::Delete, ActionKind::Delete)
 }
 
 // The removal of a book by producer 3, its operation 9.
@@ -203,26 +218,31 @@ const REMOVAL: OpName = OpName {
 // Whether an operation has this name, and so has its copy, which is of the same document.
 fn is_op(rt: &impl Abort, op: &Op, name: OpName) -> bool {
     let copy = op.copy().expect(rt, "memory");
-    op.name() == name && copy.name() == name && copy.key == op.key
+    ((op.name(), copy.name()) == (name, name)) & (copy.key == op.key)
 }
 
-#[test]
-fn copies_of_operations_equal_them(rt: HostRuntime) {
+fn copies_operation(rt: &impl Abort, alloc: Global) -> bool {
     let op = Op {
         epoch: 0,
         producer: 3,
         number: 9,
-        key: DocKey::new(rt.alloc(), "books", "1").expect(&rt, "a key"),
+        key: DocKey::new(alloc, "books", "1").expect(rt, "a key"),
         action: Action::delete(),
     };
-    assert!(rt; is_op(&rt, &op, REMOVAL));
+    is_op(rt, &op, REMOVAL)
+}
+
+#[test]
+fn copies_equal_them(rt: HostRuntime) {
+    let alloc = rt.alloc();
+    assert!(rt; copies_write(&rt, alloc) && copies_delete(&rt) && copies_operation(&rt, alloc));
 }
 
 // A key, made by a second call if the first one's allocation failed.
-fn key_again(alloc: Global) -> Result<DocKey, ActionFault> {
+fn key_again(rt: &impl Abort, alloc: Global) -> DocKey {
     match DocKey::new(alloc, "books", "1") {
-        Err(ActionFault::Memory) => DocKey::new(alloc, "books", "1"),
-        made => made,
+        Ok(key) => key,
+        Err(_) => DocKey::new(alloc, "books", "1").expect(rt, "a key"),
     }
 }
 
@@ -234,11 +254,15 @@ fn is_copied_key(key: &DocKey) -> bool {
     }
 }
 
+fn is_made(rt: &impl Abort, alloc: Global) -> bool {
+    let key = key_again(rt, alloc);
+    is_copied_key(&key) & ((key.index(), key.id()) == ("books", "1"))
+}
+
 // A failed allocation is reported as out of memory, and nothing else changes.
 #[test]
 fn refusals(rt: HostRuntime) {
-    let key = key_again(rt.alloc()).expect(&rt, "a key");
-    assert!(rt; is_copied_key(&key) && key.index() == "books" && key.id() == "1");
+    assert!(rt; is_made(&rt, rt.alloc()));
 }
 
 // What a generic caller sees of a stream.
@@ -269,8 +293,7 @@ fn takes_what_it_has_room_for(stream: &mut MemStream) -> bool {
 fn pieces(rt: HostRuntime) {
     let input = b"abcdef".to_vec(rt.alloc()).expect(&rt, "memory");
     let mut stream = MemStream::new(rt.alloc(), input, 5, 3, 4).expect(&rt, "memory");
-    assert!(rt; copies_three(&mut stream));
-    assert!(rt; takes_what_it_has_room_for(&mut stream));
+    assert!(rt; copies_three(&mut stream) && takes_what_it_has_room_for(&mut stream));
 }
 
 const TEN: &[u8] = b"0123456789";
@@ -284,15 +307,24 @@ const SENT: &[(u64, Result<(), usize>)] = &[
     (5, Ok(())),
 ];
 
+// What is answered if this call fails, and whether this many of the ten bytes are written then.
+fn written_until(
+    rt: &impl Abort,
+    alloc: Global,
+    fail_at: u64,
+    count: usize,
+) -> (Result<(), usize>, bool) {
+    let mut stream = MemStream::new(alloc, Vec::new(alloc), 10, 3, fail_at).expect(rt, "memory");
+    let sent = write_all(&mut stream, TEN);
+    (sent, TEN.get(..count) == Some(stream.written()))
+}
+
 // Each call in turn is the one that fails. No more is written than what was sent.
 #[test]
 fn each_call_fails_in_turn(rt: HostRuntime) {
     for (fail_at, sent) in SENT {
-        let nothing = Vec::new(rt.alloc());
-        let mut stream = MemStream::new(rt.alloc(), nothing, 10, 3, *fail_at).expect(&rt, "memory");
-        assert!(rt; write_all(&mut stream, TEN) == *sent);
         let count = sent.err().unwrap_or(10);
-        assert!(rt; TEN.get(..count) == Some(stream.written()));
+        assert!(rt; written_until(&rt, rt.alloc(), *fail_at, count) == (*sent, true));
     }
 }
 
@@ -323,9 +355,7 @@ fn takes_two() -> bool {
 // A reader and a writer of `std`, at the end and without room.
 #[test]
 fn streams_of_std(rt: HostRuntime) {
-    assert!(rt; reads_to_the_end());
-    assert!(rt; takes_all(rt.alloc()));
-    assert!(rt; takes_two());
+    assert!(rt; reads_to_the_end() && takes_all(rt.alloc()) && takes_two());
 }
 
 // The lanes of the ids 0 to 7 of one index, with eight lanes.
@@ -345,6 +375,6 @@ const LANES: &[(&str, u32)] = &[
 fn lanes_of_documents(rt: HostRuntime) {
     for (id, lane) in LANES {
         let key = DocKey::new(rt.alloc(), "books", *id).expect(&rt, "a key");
-        assert!(rt; lane_of(&key, 8) == *lane && lane_of(&key, 1) == 0);
+        assert!(rt; (lane_of(&key, 8), lane_of(&key, 1)) == (*lane, 0));
     }
 }

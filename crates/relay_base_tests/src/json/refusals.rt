@@ -57,12 +57,16 @@ impl<'t> Collect<'t> for Count {
 }
 
 // What each way of reading a value has counted.
-#[derive(Clone, Copy, PartialEq, Drop)]
+#[derive(Clone, Copy, Drop)]
 struct Ways {
     object: Option<Count>,
     either: Option<Count>,
     array: Option<Count>,
     sole: Option<Count>,
+}
+
+fn count_in(found: Option<(&str, Count)>) -> Option<Count> {
+    Some(found?.1)
 }
 
 impl<'t> Gather<'t> for Ways {
@@ -75,7 +79,7 @@ impl<'t> Gather<'t> for Ways {
             "object" => self.object = walk.gather(NONE)?,
             "either" => self.either = walk.gather_or_leaf(NONE)?.ok(),
             "array" => self.array = walk.collect(NONE)?,
-            "sole" => self.sole = walk.sole_object::<Count>()?.map(|found| found.1),
+            "sole" => self.sole = count_in(walk.sole_object()?),
             _ => {
                 walk.leaf()?;
             }
@@ -106,25 +110,31 @@ fn counted(count: u64) -> Option<Count> {
 }
 
 fn is_read(found: Option<Ways>) -> bool {
-    found
-        == Some(Ways {
-            object: counted(2),
-            either: counted(1),
-            array: counted(3),
-            sole: counted(1),
-        })
+    match found {
+        Some(ways) => {
+            ways.object == counted(2)
+                && ways.either == counted(1)
+                && ways.array == counted(3)
+                && ways.sole == counted(1)
+        }
+        None => false,
+    }
+}
+
+fn read_once(alloc: Global) -> Result<bool, ReadFault> {
+    let mut scratch = Scratch::new(alloc);
+    match read_object(TEXT, &mut scratch, UNREAD) {
+        Ok(found) => Ok(is_read(found)),
+        Err(fault) => Err(fault),
+    }
 }
 
 // Whether a text is read, by a second call if the first was refused.
 fn reads(alloc: Global) -> bool {
-    let mut scratch = Scratch::new(alloc);
-    match read_object(TEXT, &mut scratch, UNREAD) {
-        Ok(found) => return is_read(found),
-        Err(ReadFault::NotJson) => return false,
-        Err(ReadFault::Memory) => {}
+    match read_once(alloc) {
+        Err(ReadFault::Memory) => read_once(alloc) == Ok(true),
+        read => read == Ok(true),
     }
-    let mut scratch = Scratch::new(alloc);
-    read_object(TEXT, &mut scratch, UNREAD).is_ok_and(is_read)
 }
 
 #[test]
@@ -136,18 +146,25 @@ const SOLE: &[u8] =
     b"{\"only\":{\"a\":\"a text with \\\"quotes\\\" that is longer than what fits anywhere by itself\"}}";
 
 fn is_sole(found: Option<(&str, Count)>) -> bool {
-    found.is_some_and(|(name, count)| name == "only" && Some(count) == counted(1))
+    match found {
+        Some((name, count)) => name == "only" && Some(count) == counted(1),
+        None => false,
+    }
+}
+
+fn sole_once(alloc: Global) -> Result<bool, ReadFault> {
+    let mut scratch = Scratch::new(alloc);
+    match read_sole_object::<Count>(SOLE, &mut scratch) {
+        Ok(found) => Ok(is_sole(found)),
+        Err(fault) => Err(fault),
+    }
 }
 
 fn reads_sole(alloc: Global) -> bool {
-    let mut scratch = Scratch::new(alloc);
-    match read_sole_object::<Count>(SOLE, &mut scratch) {
-        Ok(found) => return is_sole(found),
-        Err(ReadFault::NotJson) => return false,
-        Err(ReadFault::Memory) => {}
+    match sole_once(alloc) {
+        Err(ReadFault::Memory) => sole_once(alloc) == Ok(true),
+        read => read == Ok(true),
     }
-    let mut scratch = Scratch::new(alloc);
-    read_sole_object::<Count>(SOLE, &mut scratch).is_ok_and(is_sole)
 }
 
 #[test]

@@ -45,7 +45,7 @@ impl<'t> Fields<'t> for Told<'t> {
 }
 
 // The integers among the items of an array.
-#[derive(Clone, Copy, PartialEq, Drop)]
+#[derive(Clone, Copy, Drop)]
 struct Integers {
     integers: [Option<u64>; 4],
     count: usize,
@@ -96,15 +96,17 @@ fn fault_of(alloc: Global, text: &[u8]) -> Option<ReadFault> {
     read_object(text, &mut scratch, Told::none()).err()
 }
 
+const NAMES_OF_FAULTS: &[(ReadFault, &str)] = &[
+    (ReadFault::NotJson, "NotJson"),
+    (ReadFault::Memory, "Memory"),
+];
+
 // A fault is printed as its name.
 #[test]
 fn names_of_faults(rt: HostRuntime) {
-    for (fault, name) in [
-        (ReadFault::NotJson, "NotJson"),
-        (ReadFault::Memory, "Memory"),
-    ] {
+    for (fault, name) in NAMES_OF_FAULTS {
         let printed = format!(in rt.alloc(); "{fault}").expect(&rt, "memory");
-        assert!(rt; printed.as_str() == name);
+        assert!(rt; printed.as_str() == *name);
     }
 }
 
@@ -118,18 +120,12 @@ fn nested(
     middle: &str,
     closing: &str,
 ) -> String {
-    let mut text = String::from_str(alloc, front).expect(rt, "memory");
-    for _ in 0..count {
-        text.push_str(opening).expect(rt, "memory");
-    }
-    text.push_str(middle).expect(rt, "memory");
-    for _ in 0..count {
-        text.push_str(closing).expect(rt, "memory");
-    }
-    if !front.is_empty() {
-        text.push('}').expect(rt, "memory");
-    }
-    text
+    let open = opening.repeat(alloc, count).expect(rt, "memory");
+    let close = closing.repeat(alloc, count).expect(rt, "memory");
+    let back = if front.is_empty() { "" } else { "}" };
+    [front, open.as_str(), middle, close.as_str(), back]
+        .concat(alloc)
+        .expect(rt, "memory")
 }
 
 const NO_VALUES: &[&[u8]] = &[
@@ -147,17 +143,7 @@ const NO_VALUES: &[&[u8]] = &[
     b"\"\\ud800\"",
     b"\xef\xbb\xbf{}",
     b"'a'",
-];
-
-#[test]
-fn texts_that_are_none(rt: HostRuntime) {
-    for text in NO_VALUES {
-        assert!(rt; fault_of(rt.alloc(), text) == Some(ReadFault::NotJson));
-    }
-}
-
-// A number that does not fit a float, at the top level and in members that are not looked at.
-const TOO_LARGE: &[&[u8]] = &[
+    // A number that does not fit a float, at the top level and in members that are not looked at.
     b"1e999",
     b"-1e999",
     b"[1,2e308]",
@@ -167,8 +153,8 @@ const TOO_LARGE: &[&[u8]] = &[
 ];
 
 #[test]
-fn numbers_too_large(rt: HostRuntime) {
-    for text in TOO_LARGE {
+fn texts_that_are_none(rt: HostRuntime) {
+    for text in NO_VALUES {
         assert!(rt; fault_of(rt.alloc(), text) == Some(ReadFault::NotJson));
     }
 }
@@ -215,9 +201,8 @@ fn depth(rt: HostRuntime) {
 
 // The member `a` of a text, if it is an object and has one.
 fn member_a<'t>(rt: &impl Abort, text: &'t str, scratch: &'t mut Scratch) -> Option<Leaf<'t>> {
-    read_object(text.as_bytes(), scratch, Told::none())
-        .expect(rt, "a value")
-        .and_then(|told| told.a)
+    let told = read_object(text.as_bytes(), scratch, Told::none()).expect(rt, "a value")?;
+    told.a
 }
 
 const MEMBERS: &[(&str, Option<&str>)] = &[
@@ -237,8 +222,8 @@ const MEMBERS: &[(&str, Option<&str>)] = &[
 fn members(rt: HostRuntime) {
     for (text, found) in MEMBERS {
         let mut scratch = Scratch::new(rt.alloc());
-        let leaf = member_a(&rt, text, &mut scratch);
-        assert!(rt; leaf.and_then(|leaf| leaf.as_str()) == *found);
+        let leaf = member_a(&rt, text, &mut scratch).unwrap_or(Leaf::Null);
+        assert!(rt; leaf.as_str() == *found);
     }
 }
 
@@ -261,8 +246,7 @@ fn names_of_members(rt: HostRuntime) {
         let mut scratch = Scratch::new(rt.alloc());
         let found = read_object(text.as_bytes(), &mut scratch, Told::none());
         let told = found.expect(&rt, "a value").expect(&rt, "an object");
-        assert!(rt; told.count == *count);
-        assert!(rt; told.names == *names);
+        assert!(rt; told.count == *count && told.names == *names);
     }
 }
 
@@ -292,8 +276,10 @@ fn sole_objects(rt: HostRuntime) {
     for (text, found) in SOLE_OBJECTS {
         let mut scratch = Scratch::new(rt.alloc());
         let read = read_sole_object::<Told>(text.as_bytes(), &mut scratch);
-        let sole = read.expect(&rt, "a value");
-        let told = sole.map(|(name, told)| (name, told.a.and_then(|leaf| leaf.as_u64())));
+        let told = match read.expect(&rt, "a value") {
+            Some((name, told)) => Some((name, told.a.unwrap_or(Leaf::Null).as_u64())),
+            None => None,
+        };
         assert!(rt; told == *found);
     }
 }
@@ -335,8 +321,7 @@ fn numbers_as_integers(rt: HostRuntime) {
     for (text, unsigned, signed) in INTEGERS {
         let mut scratch = Scratch::new(rt.alloc());
         let leaf = member_a(&rt, text, &mut scratch).expect(&rt, "a member");
-        assert!(rt; leaf.as_u64() == *unsigned);
-        assert!(rt; leaf.as_i64() == *signed);
+        assert!(rt; leaf.as_u64() == *unsigned && leaf.as_i64() == *signed);
     }
 }
 
@@ -358,55 +343,57 @@ fn kinds(rt: HostRuntime) {
     for (text, kind) in KINDS {
         let mut scratch = Scratch::new(rt.alloc());
         let leaf = member_a(&rt, text, &mut scratch).expect(&rt, "a member");
-        assert!(rt; leaf == *kind);
-        assert!(rt; leaf.is_null() == (*kind == Leaf::Null));
+        assert!(rt; leaf == *kind && leaf.is_null() == (*kind == Leaf::Null));
     }
 }
 
 // Leaves that no walk returned: the numbers are out of range, or not JSON.
+const ALONE: &[Leaf<'static>] = &[
+    Leaf::Number("1e999"),
+    Leaf::Number("-2E+308"),
+    Leaf::Number("18446744073709551616"),
+    Leaf::Number(""),
+];
+
 #[test]
 fn leaves_alone(rt: HostRuntime) {
-    let leaves = [
-        Leaf::Number("1e999"),
-        Leaf::Number("-2E+308"),
-        Leaf::Number("18446744073709551616"),
-        Leaf::Number(""),
-    ];
-    for leaf in leaves {
+    for leaf in ALONE {
         assert!(rt; !leaf.is_null() && leaf.as_str().is_none());
         assert!(rt; leaf.as_u64().is_none() && leaf.as_i64().is_none());
     }
 }
 
-fn of_items(count: usize, integers: [Option<u64>; 4]) -> Option<Integers> {
-    Some(Integers { integers, count })
-}
+// A text, and if its member `a` is an array, how many items that has, and their integers.
+const ITEMS: &[(&str, Option<(usize, &[Option<u64>])>)] = &[
+    (
+        "{\"a\":[3,1,2]}",
+        Some((3, &[Some(3), Some(1), Some(2), None])),
+    ),
+    ("{\"a\":[]}", Some((0, &[None, None, None, None]))),
+    (
+        "{\"a\":[{\"x\":[1]},[5],7]}",
+        Some((3, &[None, None, Some(7), None])),
+    ),
+    (
+        "{\"a\":[1],\"b\":[2],\"a\":[4]}",
+        Some((1, &[Some(4), None, None, None])),
+    ),
+    ("{\"a\":[1],\"a\":{}}", None),
+    ("{\"a\":7}", None),
+];
 
 // The items of an array, in order.
 #[test]
 fn items_in_order(rt: HostRuntime) {
-    let rows: [(&str, Option<Integers>); 6] = [
-        (
-            "{\"a\":[3,1,2]}",
-            of_items(3, [Some(3), Some(1), Some(2), None]),
-        ),
-        ("{\"a\":[]}", of_items(0, [None; 4])),
-        (
-            "{\"a\":[{\"x\":[1]},[5],7]}",
-            of_items(3, [None, None, Some(7), None]),
-        ),
-        (
-            "{\"a\":[1],\"b\":[2],\"a\":[4]}",
-            of_items(1, [Some(4), None, None, None]),
-        ),
-        ("{\"a\":[1],\"a\":{}}", None),
-        ("{\"a\":7}", None),
-    ];
-    for (text, integers) in rows {
+    for (text, wanted) in ITEMS {
         let mut scratch = Scratch::new(rt.alloc());
         let found = read_object(text.as_bytes(), &mut scratch, Listed { items: None });
         let listed = found.expect(&rt, "a value").expect(&rt, "an object");
-        assert!(rt; listed.items == integers);
+        let items = match &listed.items {
+            Some(found) => Some((found.count, found.integers.as_slice())),
+            None => None,
+        };
+        assert!(rt; items == *wanted);
     }
 }
 
@@ -422,7 +409,10 @@ impl<'t> Gather<'t> for Last<'t> {
     ghost MayFail = { ⊤ };
 
     fn member(&mut self, _: &'t str, walk: &mut Walk<'t>) -> Result<(), ReadFault> {
-        self.last = walk.gather_or_leaf(Told::none())?.map(|told| told.count);
+        self.last = match walk.gather_or_leaf(Told::none())? {
+            Ok(told) => Ok(told.count),
+            Err(leaf) => Err(leaf),
+        };
         Ok(())
     }
 }
@@ -449,68 +439,65 @@ fn objects_or_leaves(rt: HostRuntime) {
     }
 }
 
-const DECIMALS: &[(&str, Option<(u64, &str)>)] = &[
-    ("0", Some((0, ""))),
-    ("7", Some((7, ""))),
-    ("10", Some((10, ""))),
-    ("9,\"x\":1}", Some((9, ",\"x\":1}"))),
-    ("429 ", Some((429, " "))),
-    ("1.5", Some((1, ".5"))),
-    ("01", Some((0, "1"))),
-    ("100000000000000000", Some((100000000000000000, ""))),
-    ("999999999999999999}", Some((999999999999999999, "}"))),
-    ("1000000000000000000", None),
-    ("99999999999999999999", None),
-    ("", None),
-    ("x1", None),
-    ("-1", None),
-    (":", None),
+// The number at the front of some bytes, and what follows it.
+const DECIMALS: &[(&[u8], Option<(u64, &[u8])>)] = &[
+    (b"0", Some((0, b""))),
+    (b"7", Some((7, b""))),
+    (b"10", Some((10, b""))),
+    (b"9,\"x\":1}", Some((9, b",\"x\":1}"))),
+    (b"429 ", Some((429, b" "))),
+    (b"1.5", Some((1, b".5"))),
+    (b"01", Some((0, b"1"))),
+    (b"100000000000000000", Some((100000000000000000, b""))),
+    (b"999999999999999999}", Some((999999999999999999, b"}"))),
+    (b"1000000000000000000", None),
+    (b"99999999999999999999", None),
+    (b"", None),
+    (b"x1", None),
+    (b"-1", None),
+    (b":", None),
 ];
 
-// The number at the front of some bytes, and what follows it.
 #[test]
 fn decimals(rt: HostRuntime) {
     for (text, front) in DECIMALS {
-        let front = front.map(|(number, rest)| (number, rest.as_bytes()));
-        assert!(rt; take_decimal(text.as_bytes()) == front);
+        assert!(rt; take_decimal(*text) == *front);
     }
 }
 
-const PLAIN_TEXTS: &[(&str, Option<&str>, Option<(&str, &str)>)] = &[
-    ("", Some(""), None),
-    ("a", Some("a"), None),
-    (" ~", Some(" ~"), None),
-    ("\u{1f}", None, None),
-    ("\u{7f}", None, None),
-    ("\u{e4}", None, None),
-    ("a\\", None, None),
-    ("a\"", None, Some(("a", ""))),
-    ("\",\"b\"", None, Some(("", ",\"b\""))),
-    ("a\\\"b", None, None),
-    ("\u{e4}\"", None, None),
+const PLAIN_TEXTS: &[(&[u8], Option<&str>, Option<(&str, &[u8])>)] = &[
+    (b"", Some(""), None),
+    (b"a", Some("a"), None),
+    (b" ~", Some(" ~"), None),
+    (b"\x1f", None, None),
+    (b"\x7f", None, None),
+    (b"\xc3\xa4", None, None),
+    (b"a\\", None, None),
+    (b"a\"", None, Some(("a", b""))),
+    (b"\",\"b\"", None, Some(("", b",\"b\""))),
+    (b"a\\\"b", None, None),
+    (b"\xc3\xa4\"", None, None),
 ];
 
 #[test]
 fn plain_texts(rt: HostRuntime) {
     for (text, whole, front) in PLAIN_TEXTS {
-        let front = front.map(|(text, rest)| (text, rest.as_bytes()));
-        assert!(rt; plain_text(text.as_bytes()) == *whole);
-        assert!(rt; take_plain(text.as_bytes()) == front);
+        assert!(rt; plain_text(*text) == *whole && take_plain(*text) == *front);
     }
 }
 
-const FRONTS: &[(&str, &str, Option<&str>)] = &[
-    ("", "", Some("")),
-    ("ab", "", Some("ab")),
-    ("ab", "a", Some("b")),
-    ("ab", "ab", Some("")),
-    ("ab", "b", None),
-    ("a", "ab", None),
+const FRONTS: &[(&[u8], &[u8], Option<&[u8]>)] = &[
+    (b"", b"", Some(b"")),
+    (b"ab", b"", Some(b"ab")),
+    (b"ab", b"a", Some(b"b")),
+    (b"ab", b"ab", Some(b"")),
+    (b"ab", b"b", None),
+    (b"a", b"ab", None),
 ];
 
 #[test]
 fn bytes_in_front(rt: HostRuntime) {
     for (bytes, front, rest) in FRONTS {
-        assert!(rt; after(bytes.as_bytes(), front.as_bytes()) == rest.map(|rest| rest.as_bytes()));
+        assert!(rt; after(*bytes, *front) == *rest);
     }
 }

@@ -1,8 +1,10 @@
 //! Targets. Those of the first table are what the clients of Elasticsearch for Python, Ruby and Go
 //! send for these documents.
+use super::is_read;
 use relay_action::DocKey;
 use relay_target::{document_target, read_target};
 use std::alloc::Global;
+use std::process::Abort;
 
 // An index name, an id, and their target.
 const WRITTEN: &[(&str, &str, &str)] = &[
@@ -17,88 +19,66 @@ const WRITTEN: &[(&str, &str, &str)] = &[
 ];
 
 // Whether this is the target of the document.
-fn writes(alloc: Global, index: &str, id: &str, target: &str) -> bool {
-    let Ok(key) = DocKey::new(alloc, index, id) else {
-        return false;
-    };
-    match document_target(alloc, &key) {
-        Ok(text) => text.as_str() == target,
-        Err(_) => false,
-    }
-}
-
-// Whether the target is read as this document.
-fn reads(alloc: Global, target: &[u8], index: &str, id: &str) -> bool {
-    match read_target(alloc, target) {
-        Ok(Some(key)) => key.index() == index && key.id() == id,
-        _ => false,
-    }
+fn writes(rt: &impl Abort, alloc: Global, index: &str, id: &str, target: &str) -> bool {
+    let key = DocKey::new(alloc, index, id).expect(rt, "a key");
+    let text = document_target(alloc, &key).expect(rt, "memory");
+    text.as_str() == target
 }
 
 #[test]
 fn written(rt: HostRuntime) {
     for (index, id, target) in WRITTEN {
-        assert!(rt; writes(rt.alloc(), index, id, target), "{target}");
-        assert!(rt; reads(rt.alloc(), target.as_bytes(), index, id), "{target}");
+        let read = read_target(rt.alloc(), target.as_bytes());
+        assert!(rt; is_read(read, Some((*index, *id))), "{target}");
+        assert!(rt; writes(&rt, rt.alloc(), *index, *id, *target), "{target}");
     }
 }
 
-// Other forms of a target, and the document.
-const READ: &[(&[u8], &str, &str)] = &[
-    (b"/b/_doc/%c3%bc", "b", "ü"),
-    (b"/b/_doc/a+b", "b", "a+b"),
-    (b"/b/_doc/50%", "b", "50%"),
-    (b"/%62/_doc/%31", "b", "1"),
-];
-
-// Targets of no document.
-const OTHERS: &[&[u8]] = &[
-    b"",
-    b"/",
-    b"*",
-    b"/_bulk",
-    b"/b/_doc",
-    b"/b/_doc/",
-    b"//_doc/1",
-    b"b/_doc/1",
-    b"/b/_doc/1/",
-    b"/b/_doc/1/2",
-    b"/b/_doc/1?refresh=true",
-    b"/b/_create/1",
-    b"/b/doc/1",
-    b"/b/_doc/%ff",
-    b"/%ff/_doc/1",
-    b"http://h/b/_doc/1",
+// Other forms of a target, and the document, if there is one.
+const READ: &[(&[u8], Option<(&str, &str)>)] = &[
+    (b"/b/_doc/%c3%bc", Some(("b", "ü"))),
+    (b"/b/_doc/a+b", Some(("b", "a+b"))),
+    (b"/b/_doc/50%", Some(("b", "50%"))),
+    (b"/%62/_doc/%31", Some(("b", "1"))),
+    (b"", None),
+    (b"/", None),
+    (b"*", None),
+    (b"/_bulk", None),
+    (b"/b/_doc", None),
+    (b"/b/_doc/", None),
+    (b"//_doc/1", None),
+    (b"b/_doc/1", None),
+    (b"/b/_doc/1/", None),
+    (b"/b/_doc/1/2", None),
+    (b"/b/_doc/1?refresh=true", None),
+    (b"/b/_create/1", None),
+    (b"/b/doc/1", None),
+    (b"/b/_doc/%ff", None),
+    (b"/%ff/_doc/1", None),
+    (b"http://h/b/_doc/1", None),
 ];
 
 #[test]
 fn read(rt: HostRuntime) {
-    for (target, index, id) in READ {
-        assert!(rt; reads(rt.alloc(), target, index, id), "{index} {id}");
-    }
-    for target in OTHERS {
-        let none = matches!(read_target(rt.alloc(), target), Ok(None));
-        assert!(rt; none);
+    for (target, document) in READ {
+        assert!(rt; is_read(read_target(rt.alloc(), *target), *document));
     }
 }
 
-// The target of an id of this many bytes.
-fn is_long(alloc: Global, index: usize, id: usize) -> Option<bool> {
-    let mut target = Vec::new(alloc);
-    target.push(b'/').ok()?;
-    for _ in 0..index {
-        target.push(b'i').ok()?;
-    }
-    target.extend_from_slice(b"/_doc/").ok()?;
-    for _ in 0..id {
-        target.extend_from_slice(b"%41").ok()?;
-    }
-    Some(read_target(alloc, target.as_slice()).ok()?.is_none())
+// Whether the target of an index name and an id of this many bytes is none of a document.
+fn is_long(rt: &impl Abort, alloc: Global, index: usize, id: usize) -> bool {
+    let index = "i".repeat(alloc, index).expect(rt, "memory");
+    let id = "%41".repeat(alloc, id).expect(rt, "memory");
+    let target = ["/", index.as_str(), "/_doc/", id.as_str()]
+        .concat(alloc)
+        .expect(rt, "memory");
+    let read = read_target(alloc, target.as_bytes()).expect(rt, "memory");
+    is_read(Ok(read), None)
 }
 
 #[test]
 fn limits(rt: HostRuntime) {
     for (index, id, long) in [(255, 512, false), (256, 1, true), (1, 513, true)] {
-        assert!(rt; is_long(rt.alloc(), index, id) == Some(long));
+        assert!(rt; is_long(&rt, rt.alloc(), index, id) == long);
     }
 }

@@ -1,10 +1,12 @@
 //! Calls of the index, with any one of their allocations refused (`make refusals`): the refusal
 //! says what was run, and the call succeeds when it is repeated.
-use relay_action::{Action, DocKey, Write};
+use crate::writes::write_again;
+use relay_action::{DocKey, Write};
 use relay_index::{Choice, Index, Script};
 use relay_results::ItemDone;
 use std::alloc::{AllocError, Global};
 use std::mem;
+use std::process::Abort;
 
 /// Ids and sources that are too long to be stored in the value itself.
 const IDS: [&str; 3] = [
@@ -12,28 +14,6 @@ const IDS: [&str; 3] = [
     "the second document of more than thirty-eight bytes",
     "the third document of more than thirty-eight bytes",
 ];
-
-fn write_once(alloc: Global, id: &str, version: u64) -> Option<Write> {
-    let Ok(key) = DocKey::new(alloc, "books", id) else {
-        return None;
-    };
-    let Ok(action) = Action::index(alloc, id) else {
-        mem::forget(key);
-        return None;
-    };
-    Some(Write {
-        key,
-        version,
-        action,
-    })
-}
-
-fn write_of(alloc: Global, id: &str, version: u64) -> Option<Write> {
-    match write_once(alloc, id, version) {
-        None => write_once(alloc, id, version),
-        made => made,
-    }
-}
 
 // Whether a write was applied, or would be. `None`: the call was refused.
 fn is_applied(done: Result<ItemDone, AllocError>) -> Option<bool> {
@@ -64,20 +44,18 @@ fn runs_one(index: &mut Index, write: &Write) -> bool {
     }
 }
 
-fn applies(index: &mut Index, write: Option<Write>) -> bool {
-    let Some(write) = write else {
-        return false;
-    };
-    let good = foretells(index, &write) && runs_one(index, &write);
+fn applies(rt: &impl Abort, alloc: Global, index: &mut Index, id: &str, version: u64) -> bool {
+    let write = write_again(rt, alloc, id, version, Some(id));
+    let good = foretells(index, &write) & runs_one(index, &write);
     mem::forget(write);
     good
 }
 
 // Writes each document twice, each time with a higher version.
-fn fills(alloc: Global, index: &mut Index) -> bool {
+fn fills(rt: &impl Abort, alloc: Global, index: &mut Index) -> bool {
     let mut good = true;
     for version in 0..6usize {
-        good = applies(index, write_of(alloc, IDS[version % 3], version as u64 + 1)) && good;
+        good &= applies(rt, alloc, index, IDS[version % 3], version as u64 + 1);
     }
     good
 }
@@ -117,7 +95,7 @@ fn has_keys(alloc: Global, index: &Index) -> bool {
 #[test]
 fn refused_runs(rt: HostRuntime) {
     let mut index = Index::new(rt.alloc());
-    assert!(rt; fills(rt.alloc(), &mut index) && has_keys(rt.alloc(), &index));
+    assert!(rt; fills(&rt, rt.alloc(), &mut index) && has_keys(rt.alloc(), &index));
     mem::forget(index);
 }
 

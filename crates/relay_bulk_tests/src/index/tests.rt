@@ -1,7 +1,8 @@
 //! Runs of writes, look-ups, and bodies of bulk requests.
 ghost use Rattle.relay_index.specs.Choices.{MayChoose};
 
-use relay_action::{Action, DocKey, Write};
+use crate::writes::{is_of, write_of};
+use relay_action::{DocKey, Write};
 use relay_index::{Choice, Index, Script, may_refuse};
 use relay_results::{DoneResult, ItemDone, VersionConflict};
 use std::alloc::AllocError;
@@ -17,19 +18,6 @@ fn fresh<'i>(rt: &(impl Abort + AllocGlobal)) -> &'i mut Index {
 /// The id, the version and the source of a write to a document of index `b`; a source of `None` is
 /// a delete.
 type Row<'r> = (&'r str, u64, Option<&'r str>);
-
-fn write_of(rt: &(impl Abort + AllocGlobal), row: Row) -> Write {
-    let (id, version, source) = row;
-    let action = match source {
-        Some(text) => Action::index(rt.alloc(), text).expect(rt, "an action"),
-        None => Action::delete(),
-    };
-    Write {
-        key: DocKey::new(rt.alloc(), "b", id).expect(rt, "a key"),
-        version,
-        action,
-    }
-}
 
 /// The status, the result, the stored version and the sequence number after running a write.
 type Said = (u16, DoneResult, u64, u64);
@@ -47,7 +35,8 @@ fn said_of(rt: &impl Abort, index: &mut Index, write: &Write, choice: Choice) ->
 fn run(rt: &(impl Abort + AllocGlobal), index: &mut Index, row: Row, choice: Choice) -> Said
     requires { MayChoose choice }
 {
-    let write = write_of(rt, row);
+    let (id, version, source) = row;
+    let write = write_of(rt, "b", id, version, source);
     let said = said_of(rt, index, &write, choice);
     mem::forget(write);
     said
@@ -97,9 +86,10 @@ fn writes_that_are_refused(rt: HostRuntime) {
     let index = fresh(&rt);
     let row = ("2", 7, Some("{}"));
     let refused = run(&rt, index, row, Choice::Refuse(429));
-    assert!(rt; refused == (429, DoneResult::Refused, 0, 0));
     let created = run(&rt, index, row, Choice::Run);
-    assert!(rt; created == (201, DoneResult::Created, 7, 0));
+    assert!(rt;
+        refused == (429, DoneResult::Refused, 0, 0) && created == (201, DoneResult::Created, 7, 0)
+    );
 }
 
 // The version and the source of a document, and how many writes were applied to it.
@@ -147,25 +137,16 @@ fn look_ups(rt: HostRuntime) {
 
 // Runs the delete of a document twice with the same version.
 fn delete_twice(rt: &(impl Abort + AllocGlobal), index: &mut Index, name: &str, id: &str) {
-    let write = Write {
-        key: DocKey::new(rt.alloc(), name, id).expect(rt, "a key"),
-        version: 1,
-        action: Action::delete(),
-    };
+    let write = write_of(rt, name, id, 1, None);
     said_of(rt, index, &write, Choice::Run);
     said_of(rt, index, &write, Choice::Run);
     mem::forget(write);
 }
 
-// Whether a document has this index name and this id.
-fn is(key: &DocKey, wanted: &(&str, &str)) -> bool {
-    let (name, id) = *wanted;
-    key.index() == name && key.id() == id
-}
-
+// Whether the documents have these index names and ids.
 fn are(keys: &[DocKey], wanted: &[(&str, &str)]) -> bool {
-    for (key, row) in keys.iter().zip(wanted) {
-        if !is(key, row) {
+    for (key, (name, id)) in keys.iter().zip(wanted) {
+        if !is_of(key, *name, *id) {
             return false;
         }
     }
@@ -220,7 +201,7 @@ fn states(
     index: &mut Index,
     version: u64,
 ) -> [Option<VersionConflict>; 3] {
-    let write = write_of(rt, ("2", version, None));
+    let write = write_of(rt, "b", "2", version, None);
     let before = conflict_of(rt, index.preview(&write, Choice::Run));
     let refused = conflict_of(rt, index.preview(&write, Choice::Refuse(429)));
     let after = conflict_of(rt, index.run(&write, Choice::Run));
@@ -240,8 +221,10 @@ fn stated_versions(rt: HostRuntime) {
         stored: 5,
         provided: 3,
     });
-    assert!(rt; states(&rt, index, 3) == [versions, None, versions]);
-    assert!(rt; states(&rt, index, 6) == [None, None, None]);
+    assert!(rt;
+        states(&rt, index, 3) == [versions, None, versions]
+            && states(&rt, index, 6) == [None, None, None]
+    );
 }
 
 /// A body, and the status and the text of its answer.

@@ -1,5 +1,6 @@
 //! Tables of bulk bodies, lines at their limit, and reading back what was written.
-use relay_action::{Action, ActionFault, Write};
+use crate::writes::{has_source, is_of};
+use relay_action::{ActionFault, Write};
 use relay_ndjson::{BulkFault, LineKind, bulk_text, read_bulk};
 use std::alloc::Global;
 use std::mem;
@@ -170,7 +171,12 @@ fn sources(rt: HostRuntime) {
     }
 }
 
-const MISSING_SOURCES: &[([&[u8]; 3], u64, LineKind)] = &[
+const OPEN: &[u8] =
+    b"{\"delete\":{\"_id\":\"2\",\"_index\":\"books\",\"version\":2,\"version_type\":\"external\"}}";
+
+// Pieces of a body, and the line and the kind of its fault.
+const LAST_LINES: &[([&[u8]; 3], u64, LineKind)] = &[
+    // Without the source.
     ([INDEX, b"", b""], 1, LineKind::SourceMissing),
     ([DELETE, INDEX, b""], 2, LineKind::SourceMissing),
     (
@@ -178,19 +184,7 @@ const MISSING_SOURCES: &[([&[u8]; 3], u64, LineKind)] = &[
         2,
         LineKind::Action(ActionFault::SourceEmpty),
     ),
-];
-
-#[test]
-fn sources_that_are_missing(rt: HostRuntime) {
-    for (pieces, line, kind) in MISSING_SOURCES {
-        assert!(rt; fault_of(&rt, rt.alloc(), pieces) == at(*line, *kind));
-    }
-}
-
-const OPEN: &[u8] =
-    b"{\"delete\":{\"_id\":\"2\",\"_index\":\"books\",\"version\":2,\"version_type\":\"external\"}}";
-
-const OPEN_LINES: &[([&[u8]; 3], u64, LineKind)] = &[
+    // A last line without its end.
     ([OPEN, b"", b""], 1, LineKind::NoFinalNewline),
     ([OPEN, b"\r", b""], 1, LineKind::NoFinalNewline),
     ([DELETE, OPEN, b""], 2, LineKind::NoFinalNewline),
@@ -198,17 +192,12 @@ const OPEN_LINES: &[([&[u8]; 3], u64, LineKind)] = &[
     ([b"[1]\n", OPEN, b""], 1, LineKind::NotOneAction),
 ];
 
-// A last line without its end.
 #[test]
-fn open_lines(rt: HostRuntime) {
-    for (pieces, line, kind) in OPEN_LINES {
+fn last_lines(rt: HostRuntime) {
+    for (pieces, line, kind) in LAST_LINES {
         assert!(rt; fault_of(&rt, rt.alloc(), pieces) == at(*line, *kind));
     }
-}
-
-// The same line with its end.
-#[test]
-fn a_line_that_ends(rt: HostRuntime) {
+    // The same line with its end.
     assert!(rt; fault_of(&rt, rt.alloc(), &[OPEN, b"\r\n"]).is_none());
 }
 
@@ -240,22 +229,9 @@ fn lines_at_their_limit(rt: HostRuntime) {
     }
 }
 
-// Whether a write has this id and this version.
-fn is_of(write: &Write, id: &str, version: u64) -> bool {
-    write.key.id() == id && write.version == version
-}
-
-// Whether a write to the index `books` has this id, this version and this source.
-fn is_in_books(write: &Write, id: &str, version: u64, source: Option<&str>) -> bool {
-    write.key.index() == "books" && is_of(write, id, version) && has_source(write, source)
-}
-
-// Whether a write has this source, or deletes if none is given.
-fn has_source(write: &Write, source: Option<&str>) -> bool {
-    match &write.action {
-        Action::Index(text) => source == Some(text.text()),
-        Action::Delete => source.is_none(),
-    }
+// Whether a write is of this document, with this version and this source.
+fn is_write(write: &Write, index: &str, id: &str, version: u64, source: Option<&str>) -> bool {
+    is_of(&write.key, index, id) && write.version == version && has_source(&write.action, source)
 }
 
 const TWO_LINES: &[u8] =
@@ -265,8 +241,8 @@ const TWO_LINES: &[u8] =
 fn are_two(writes: &[Write]) -> bool {
     match writes {
         [one, other] => {
-            is_in_books(one, "1", 1, Some("{\"title\": \"Emma\"}"))
-                && is_in_books(other, "2", 2, None)
+            is_write(one, "books", "1", 1, Some("{\"title\": \"Emma\"}"))
+                && is_write(other, "books", "2", 2, None)
         }
         _ => false,
     }
@@ -293,7 +269,7 @@ fn another_form(rt: HostRuntime) {
         b"{\"index\":{\"version_type\":\"external\",\"version\":3,\"_index\":\"b\",\"_id\":-9}}\r\n{}\r\n";
     let writes = read_bulk(rt.alloc(), text).expect(&rt, "a write");
     assert!(rt; writes.len() == 1);
-    assert!(rt; is_of(&writes[0], "-9", 3) && has_source(&writes[0], Some("{}")));
+    assert!(rt; is_write(&writes[0], "b", "-9", 3, Some("{}")));
     mem::forget(writes);
 }
 
@@ -333,6 +309,6 @@ const NAMES: &[(LineKind, &str)] = &[
 fn names(rt: HostRuntime) {
     for (kind, name) in NAMES {
         let printed = format!(in rt.alloc(); "{kind}").expect(&rt, "memory");
-        assert!(rt; kind.name() == *name && printed.as_str() == *name);
+        assert!(rt; (kind.name(), printed.as_str()) == (*name, *name));
     }
 }

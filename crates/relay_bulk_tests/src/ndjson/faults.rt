@@ -66,142 +66,135 @@ fn fault_of(
     first_fault(&mut Input::new(alloc, stream, default_index))
 }
 
-const WITHOUT_A_FAULT: &[&[u8]] = &[
-    b"",
-    b"\n\r\n",
-    b"{\"delete\":{\"_id\":\"1\",\"_id\":\"2\",\"_index\":\"b\"}}\r\n",
-];
+// An input, the default index, and the line and the kind of its first fault, if it has one.
+type First = (&'static [u8], Option<&'static str>, Option<(u64, LineKind)>);
 
-#[test]
-fn inputs_without_a_fault(rt: HostRuntime) {
-    for text in WITHOUT_A_FAULT {
-        assert!(rt; fault_of(&rt, rt.alloc(), *text, None).is_none());
-    }
-}
-
-const NO_ACTION: &[(&[u8], u64, LineKind)] = &[
-    (b"{\n", 1, LineKind::NotJson),
-    (b"\xff\n", 1, LineKind::NotJson),
-    (b"\r", 1, LineKind::NotJson),
+const FIRST: &[First] = &[
+    // No fault.
+    (b"", None, None),
+    (b"\n\r\n", None, None),
+    (
+        b"{\"delete\":{\"_id\":\"1\",\"_id\":\"2\",\"_index\":\"b\"}}\r\n",
+        None,
+        None,
+    ),
+    // Lines that are no action.
+    (b"{\n", None, Some((1, LineKind::NotJson))),
+    (b"\xff\n", None, Some((1, LineKind::NotJson))),
+    (b"\r", None, Some((1, LineKind::NotJson))),
     (
         b"{\"delete\":{\"_id\":\"1\",\"_index\":\"b\",\"x\":1e999}}\n",
-        1,
-        LineKind::NotJson,
+        None,
+        Some((1, LineKind::NotJson)),
     ),
-    (b"[1]\n", 1, LineKind::NotOneAction),
-    (b"{\"create\":1}\n", 1, LineKind::NotOneAction),
-    (b"{\"index\":{},\"delete\":{}}\n", 1, LineKind::NotOneAction),
+    (b"[1]\n", None, Some((1, LineKind::NotOneAction))),
+    (b"{\"create\":1}\n", None, Some((1, LineKind::NotOneAction))),
+    (
+        b"{\"index\":{},\"delete\":{}}\n",
+        None,
+        Some((1, LineKind::NotOneAction)),
+    ),
     (
         b"{\"create\":{\"_index\":\"b\",\"_id\":\"1\"}}\n",
-        1,
-        LineKind::UnsupportedAction,
+        None,
+        Some((1, LineKind::UnsupportedAction)),
     ),
-    (b"\n\n[1]\n", 3, LineKind::NotOneAction),
-];
-
-#[test]
-fn lines_that_are_no_action(rt: HostRuntime) {
-    for (text, line, kind) in NO_ACTION {
-        assert!(rt; fault_of(&rt, rt.alloc(), *text, None) == at(*line, *kind));
-    }
-}
-
-const BAD_METADATA: &[(&[u8], LineKind)] = &[
+    (b"\n\n[1]\n", None, Some((3, LineKind::NotOneAction))),
+    // Metadata and documents.
     (
         b"{\"index\":{\"_index\":\"b\",\"_id\":\"1\",\"routing\":\"x\",\"version\":3}}\n",
-        LineKind::UnsupportedField,
+        None,
+        Some((1, LineKind::UnsupportedField)),
     ),
     (
         b"{\"index\":{\"_index\":\"b\",\"_id\":\"1\",\"version\":3}}\n",
-        LineKind::VersionGiven,
+        None,
+        Some((1, LineKind::VersionGiven)),
     ),
-    (b"{\"delete\":{\"_id\":\"1\"}}\n", LineKind::MissingIndex),
+    (
+        b"{\"delete\":{\"_id\":\"1\"}}\n",
+        None,
+        Some((1, LineKind::MissingIndex)),
+    ),
     (
         b"{\"delete\":{\"_id\":\"1\",\"_index\":3}}\n",
-        LineKind::MissingIndex,
+        None,
+        Some((1, LineKind::MissingIndex)),
     ),
-    (b"{\"index\":{\"_index\":\"b\"}}\n", LineKind::MissingId),
-];
-
-#[test]
-fn faults_of_metadata(rt: HostRuntime) {
-    for (text, kind) in BAD_METADATA {
-        assert!(rt; fault_of(&rt, rt.alloc(), *text, None) == at(1, *kind));
-    }
-}
-
-const BAD_DOCUMENTS: &[(&[u8], LineKind)] = &[
+    (
+        b"{\"index\":{\"_index\":\"b\"}}\n",
+        None,
+        Some((1, LineKind::MissingId)),
+    ),
     (
         b"{\"delete\":{\"_id\":-0,\"_index\":\"b\"}}\n",
-        LineKind::MissingId,
+        None,
+        Some((1, LineKind::MissingId)),
     ),
     (
         b"{\"delete\":{\"_id\":1.0,\"_index\":\"b\"}}\n",
-        LineKind::MissingId,
+        None,
+        Some((1, LineKind::MissingId)),
     ),
     (
         b"{\"delete\":{\"_id\":\"1\",\"_index\":\"\"}}\n",
-        LineKind::Action(ActionFault::IndexEmpty),
+        None,
+        Some((1, LineKind::Action(ActionFault::IndexEmpty))),
     ),
     (
         b"{\"delete\":{\"_id\":\"\",\"_index\":\"b\"}}\n",
-        LineKind::Action(ActionFault::IdEmpty),
+        None,
+        Some((1, LineKind::Action(ActionFault::IdEmpty))),
     ),
-];
-
-#[test]
-fn faults_of_documents(rt: HostRuntime) {
-    for (text, kind) in BAD_DOCUMENTS {
-        assert!(rt; fault_of(&rt, rt.alloc(), *text, None) == at(1, *kind));
-    }
-}
-
-const BAD_SOURCES: &[(&[u8], u64, LineKind)] = &[
+    // Sources.
     (
         b"{\"index\":{\"_index\":\"b\",\"_id\":\"1\"}}\n",
-        1,
-        LineKind::SourceMissing,
+        None,
+        Some((1, LineKind::SourceMissing)),
     ),
     (
         b"{\"index\":{\"_index\":\"b\",\"_id\":\"1\"}}",
-        1,
-        LineKind::SourceMissing,
+        None,
+        Some((1, LineKind::SourceMissing)),
     ),
     (
         b"\n{\"delete\":{\"_id\":-7,\"_index\":\"b\"}}\n\n{\"index\":{\"_id\":1,\"_index\":\"b\"}}\n\n",
-        5,
-        LineKind::Action(ActionFault::SourceEmpty),
+        None,
+        Some((5, LineKind::Action(ActionFault::SourceEmpty))),
     ),
     (
         b"{\"index\":{\"_id\":1,\"_index\":\"b\"}}\na\rb",
-        2,
-        LineKind::Action(ActionFault::SourceNewline),
+        None,
+        Some((2, LineKind::Action(ActionFault::SourceNewline))),
     ),
     (
         b"{\"index\":{\"_id\":1,\"_index\":\"b\"}}\na\r",
-        2,
-        LineKind::Action(ActionFault::SourceNewline),
+        None,
+        Some((2, LineKind::Action(ActionFault::SourceNewline))),
     ),
     (
         b"{\"index\":{\"_id\":1,\"_index\":\"b\"}}\n\xff",
-        2,
-        LineKind::NotJson,
+        None,
+        Some((2, LineKind::NotJson)),
+    ),
+    // The default index.
+    (b"{\"delete\":{\"_id\":\"1\"}}\n", Some("b"), None),
+    (
+        b"{\"delete\":{\"_id\":\"1\"}}\n",
+        Some(""),
+        Some((1, LineKind::Action(ActionFault::IndexEmpty))),
     ),
 ];
 
 #[test]
-fn faults_of_sources(rt: HostRuntime) {
-    for (text, line, kind) in BAD_SOURCES {
-        assert!(rt; fault_of(&rt, rt.alloc(), *text, None) == at(*line, *kind));
+fn first_faults(rt: HostRuntime) {
+    for (text, default_index, fault) in FIRST {
+        let wanted = match fault {
+            Some((line, kind)) => at(*line, *kind),
+            None => None,
+        };
+        assert!(rt; fault_of(&rt, rt.alloc(), *text, *default_index) == wanted);
     }
-}
-
-#[test]
-fn default_index(rt: HostRuntime) {
-    let text = b"{\"delete\":{\"_id\":\"1\"}}\n";
-    let empty = at(1, LineKind::Action(ActionFault::IndexEmpty));
-    assert!(rt; fault_of(&rt, rt.alloc(), text, Some("b")).is_none());
-    assert!(rt; fault_of(&rt, rt.alloc(), text, Some("")) == empty);
 }
 
 // The first fault of an input of 65,536 blank lines and an end.

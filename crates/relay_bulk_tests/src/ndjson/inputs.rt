@@ -1,35 +1,18 @@
 //! The operations of an input and their lines, and failures in the middle.
 use crate::ndjson::faults::{at, gives_next, settled, stream_of};
-use relay_action::{Action, DocKey, MemStream};
+use crate::writes::{has_source, is_of};
+use relay_action::MemStream;
 use relay_ndjson::{Input, InputFault, LineKind, Parser};
 use std::alloc::{AllocError, Global};
 use std::mem;
 use std::process::Abort;
 
-// Whether a document has this id and this index.
-fn is_of(key: &DocKey, id: &str, index: &str) -> bool {
-    key.id() == id && key.index() == index
-}
-
-// Whether an action stores this text, or deletes if none is given.
-fn writes(action: &Action, source: Option<&str>) -> bool {
-    match action {
-        Action::Index(text) => source == Some(text.text()),
-        Action::Delete => source.is_none(),
-    }
-}
-
 // Whether the next operation is of this document, with this source.
 fn gives(input: &mut Input<MemStream>, id: &str, index: &str, source: Option<&str>) -> bool {
     match input.next() {
-        Ok(Some((key, action))) => is_of(&key, id, index) && writes(&action, source),
+        Ok(Some((key, action))) => is_of(&key, index, id) && has_source(&action, source),
         _ => false,
     }
-}
-
-// Whether the next result is the end.
-fn ends(input: &mut Input<MemStream>) -> bool {
-    gives_next(input) == Ok(false)
 }
 
 // An input in pieces of five bytes, with the default index `b`.
@@ -44,8 +27,8 @@ fn has_operations(input: &mut Input<MemStream>) -> bool {
         && input.line() == 1
         && gives(input, "-9", "c", Some("{\"a\":1}"))
         && input.line() == 3
-        && ends(input)
-        && ends(input)
+        && gives_next(input) == Ok(false)
+        && gives_next(input) == Ok(false)
 }
 
 // The input has a delete and a write, on the lines 1 and 3, and then no more, however often it is
@@ -147,7 +130,8 @@ const FORMS: &[(&[u8], &str, &str, Option<&str>)] = &[
 fn forms_of_action_lines(rt: HostRuntime) {
     for (text, id, index, source) in FORMS {
         let mut input = input_of(&rt, rt.alloc(), *text);
-        assert!(rt; gives(&mut input, *id, *index, *source) && ends(&mut input));
+        assert!(rt; gives(&mut input, *id, *index, *source));
+        assert!(rt; gives_next(&mut input) == Ok(false));
         mem::forget(input);
     }
 }
@@ -235,7 +219,7 @@ fn readiness_of_a_parser(rt: HostRuntime) {
 fn readiness_of_an_input(rt: HostRuntime) {
     let mut input = input_of(&rt, rt.alloc(), b"\n\n\n\n");
     for _ in 0..2u8 {
-        assert!(rt; !input.is_ready() && ends(&mut input));
+        assert!(rt; !input.is_ready() && gives_next(&mut input) == Ok(false));
     }
     mem::forget(input);
 }

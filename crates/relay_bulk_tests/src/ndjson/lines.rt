@@ -1,6 +1,7 @@
 //! Lines one after another, for readers of other formats, and the lines of operations.
 use crate::ndjson::faults::{at, stream_of};
-use relay_action::{Action, ActionKind, MemStream};
+use crate::writes::has_source;
+use relay_action::{ActionKind, MemStream};
 use relay_ndjson::{InputFault, LineEnd, LineKind, LineReader};
 use std::alloc::Global;
 use std::mem;
@@ -20,23 +21,18 @@ fn is_line(lines: &LineReader, text: &[u8], end: LineEnd, number: u64) -> bool {
     lines.text() == text && lines.end() == end && lines.count() == number
 }
 
-// Whether there is another line, which is taken. `None`: a read failed.
-fn takes_one(lines: &mut LineReader, stream: &mut MemStream) -> Option<bool> {
-    lines.next(stream).ok()
-}
-
 // Whether the lines of the input are taken. If the first read returns all of it, a line is ready
 // after the first two.
 fn takes_each(lines: &mut LineReader, stream: &mut MemStream, at_once: bool) -> bool {
     let mut number: u64 = 0;
     for (text, end) in TEXTS {
         number = number.saturating_add(1);
-        let taken = takes_one(lines, stream) == Some(true) && is_line(lines, *text, *end, number);
+        let taken = lines.next(stream) == Ok(true) && is_line(lines, *text, *end, number);
         if !taken || at_once && lines.is_ready() != (number < 3) {
             return false;
         }
     }
-    takes_one(lines, stream) == Some(false) && lines.count() == 4
+    lines.next(stream) == Ok(false) && lines.count() == 4
 }
 
 // The lines of the input, with their numbers, from pieces of several sizes.
@@ -56,8 +52,8 @@ fn lines_one_after_another(rt: HostRuntime) {
 fn a_line_that_is_not_whole_is_not_counted(rt: HostRuntime) {
     let mut stream = stream_of(&rt, rt.alloc(), INPUT, 6, 2);
     let mut lines = LineReader::new(rt.alloc());
-    assert!(rt; takes_one(&mut lines, &mut stream) == Some(true));
-    assert!(rt; takes_one(&mut lines, &mut stream) == Some(true));
+    assert!(rt; lines.next(&mut stream) == Ok(true));
+    assert!(rt; lines.next(&mut stream) == Ok(true));
     let fault = lines.next(&mut stream).expect_err(&rt, "a read fails");
     assert!(rt; fault.line == 3 && lines.count() == 2);
     mem::forget((stream, lines));
@@ -84,44 +80,40 @@ const INDEX: &[u8] = b"{\"index\":{\"_id\":\"2\"}}";
 const OPERATIONS: &[u8] =
     b"\r\n{\"delete\":{\"_id\":\"1\",\"_index\":\"c\"}}\r\n\n{\"index\":{\"_id\":\"2\"}}\n {\"a\":1}";
 
-/// Whether the next action line asks for this on the document `index/id`.
+/// What an action line asks for, and the index and the id of its document.
+type Asked<'a> = (ActionKind, &'a str, &'a str);
+
+/// Whether the next action line asks for this, or there is none if `wanted` is none.
 fn asks(
     lines: &mut LineReader,
     alloc: Global,
     stream: &mut MemStream,
-    wanted: (ActionKind, &str, &str),
+    wanted: Option<Asked>,
 ) -> bool {
     match lines.next_action(alloc, stream, Some("b")) {
-        Ok(Some((kind, key))) => (kind, key.index(), key.id()) == wanted,
-        _ => false,
+        Ok(Some((kind, key))) => wanted == Some((kind, key.index(), key.id())),
+        Ok(None) => wanted.is_none(),
+        Err(_) => false,
     }
 }
 
 /// Whether the next line is this source.
 fn stores(lines: &mut LineReader, alloc: Global, stream: &mut MemStream, text: &str) -> bool {
     match lines.next_source(alloc, stream) {
-        Ok(Action::Index(source)) => source.text() == text,
-        _ => false,
-    }
-}
-
-/// Whether there is no further action line.
-fn ends(lines: &mut LineReader, alloc: Global, stream: &mut MemStream) -> bool {
-    match lines.next_action(alloc, stream, Some("b")) {
-        Ok(next) => next.is_none(),
+        Ok(action) => has_source(&action, Some(text)),
         Err(_) => false,
     }
 }
 
 // Whether exactly the two operations are taken, with their lines.
 fn takes_operations(lines: &mut LineReader, alloc: Global, stream: &mut MemStream) -> bool {
-    asks(lines, alloc, stream, (ActionKind::Delete, "c", "1"))
+    asks(lines, alloc, stream, Some((ActionKind::Delete, "c", "1")))
         && is_line(lines, DELETE, LineEnd::ReturnFeed, 2)
-        && asks(lines, alloc, stream, (ActionKind::Index, "b", "2"))
+        && asks(lines, alloc, stream, Some((ActionKind::Index, "b", "2")))
         && is_line(lines, INDEX, LineEnd::Feed, 4)
         && stores(lines, alloc, stream, " {\"a\":1}")
         && is_line(lines, b" {\"a\":1}", LineEnd::Open, 5)
-        && ends(lines, alloc, stream)
+        && asks(lines, alloc, stream, None)
         && lines.count() == 5
 }
 
@@ -140,7 +132,7 @@ fn lines_of_operations(rt: HostRuntime) {
 fn source_fault(rt: &impl Abort, alloc: Global, input: &[u8]) -> Option<InputFault> {
     let mut stream = stream_of(rt, alloc, input, 100, 0);
     let mut lines = LineReader::new(alloc);
-    let index = (ActionKind::Index, "b", "2");
+    let index = Some((ActionKind::Index, "b", "2"));
     assert!(rt; asks(&mut lines, alloc, &mut stream, index));
     let fault = lines.next_source(alloc, &mut stream).err();
     mem::forget((stream, lines));

@@ -1,5 +1,6 @@
 //! Calls over bulk text, with any one of their allocations refused (`make refusals`): the refusal
 //! is reported, and says what it leaves.
+use crate::writes::{has_source, is_of, write_again};
 use relay_action::{Action, ActionKind, DocKey, MemStream, Write};
 use relay_json::Scratch;
 use relay_ndjson::action_line::action_of;
@@ -9,6 +10,7 @@ use relay_ndjson::{
 };
 use std::alloc::{AllocError, Global};
 use std::mem;
+use std::process::Abort;
 
 const ID: &str = "an id with a \"quote\", of more than thirty-eight bytes";
 
@@ -21,33 +23,22 @@ const INDEXED: &[u8] =
 const BOTH: &[u8] =
     b"x{\"index\":{\"_id\":\"an id with a \\\"quote\\\", of more than thirty-eight bytes\",\"_index\":\"books\",\"version\":7,\"version_type\":\"external\"}}\n{\"title\":\"a source of more than thirty-eight bytes\"}\n{\"delete\":{\"_id\":\"an id with a \\\"quote\\\", of more than thirty-eight bytes\",\"_index\":\"books\",\"version\":8,\"version_type\":\"external\"}}\n";
 
-fn write_once(alloc: Global, version: u64) -> Option<Write> {
-    let action = if version == 7 {
-        Action::index(alloc, SOURCE).ok()?
-    } else {
-        Action::delete()
-    };
-    Some(Write {
-        key: DocKey::new(alloc, "books", ID).ok()?,
-        version,
-        action,
-    })
+// The write of the index action, and the delete.
+fn indexing(rt: &impl Abort, alloc: Global) -> Write {
+    write_again(rt, alloc, ID, 7, Some(SOURCE))
 }
 
-fn write_of(alloc: Global, version: u64) -> Option<Write> {
-    match write_once(alloc, version) {
-        None => write_once(alloc, version),
-        made => made,
-    }
+fn deletion(rt: &impl Abort, alloc: Global) -> Write {
+    write_again(rt, alloc, ID, 8, None)
 }
 
 /// A text of one byte.
 const BEGUN: &[u8] = b"x";
 
-fn begun(alloc: Global) -> Option<Vec<u8>> {
+fn begun(rt: &impl Abort, alloc: Global) -> Vec<u8> {
     match BEGUN.to_vec(alloc) {
-        Ok(text) => Some(text),
-        Err(_) => BEGUN.to_vec(alloc).ok(),
+        Ok(text) => text,
+        Err(_) => BEGUN.to_vec(alloc).expect(rt, "a text"),
     }
 }
 
@@ -68,28 +59,27 @@ fn appends(alloc: Global, text: &mut Vec<u8>, write: &Write, whole: bool) -> boo
     }
 }
 
-// Whether the lines of a write, or its action line, are added to the end of a text.
-fn has_lines(alloc: Global, write: &Write, whole: bool) -> Option<bool> {
+// The text with the lines of the index action, or with its action line.
+fn appended(rt: &impl Abort, whole: bool) -> &'static [u8] {
     let line = INDEXED.len().saturating_sub(SOURCE.len()).saturating_sub(1);
-    let wanted = INDEXED.get(..(if whole { INDEXED.len() } else { line }))?;
-    let mut text = begun(alloc)?;
-    let good = appends(alloc, &mut text, write, whole) && text.as_slice() == wanted;
-    mem::forget(text);
-    Some(good)
+    INDEXED
+        .get(..(if whole { INDEXED.len() } else { line }))
+        .expect(rt, "a line")
 }
 
-fn has_lines_of(alloc: Global, whole: bool) -> Option<bool> {
-    let write = write_of(alloc, 7)?;
-    let good = has_lines(alloc, &write, whole);
-    mem::forget(write);
-    good
+// Whether the lines of a write, or its action line, are added to the end of a text.
+fn has_lines(rt: &impl Abort, alloc: Global, write: &Write, whole: bool) -> bool {
+    let mut text = begun(rt, alloc);
+    appends(alloc, &mut text, write, whole) & (text.as_slice() == appended(rt, whole))
 }
 
 #[test]
 fn refused_lines(rt: HostRuntime) {
+    let write = indexing(&rt, rt.alloc());
     for whole in [true, false] {
-        assert!(rt; has_lines_of(rt.alloc(), whole) == Some(true));
+        assert!(rt; has_lines(&rt, rt.alloc(), &write, whole));
     }
+    mem::forget(write);
 }
 
 // Whether the lines of two writes are appended, by a second call if the first was refused and left
@@ -105,55 +95,36 @@ fn appends_all(text: &mut Vec<u8>, writes: &[Write]) -> bool {
     }
 }
 
-fn has_all(alloc: Global, writes: &[Write]) -> Option<bool> {
-    let mut text = begun(alloc)?;
-    let good = appends_all(&mut text, writes) && text.as_slice() == BOTH;
-    mem::forget(text);
-    Some(good)
+fn has_all(rt: &impl Abort, alloc: Global, writes: &[Write]) -> bool {
+    let mut text = begun(rt, alloc);
+    appends_all(&mut text, writes) & (text.as_slice() == BOTH)
 }
 
-fn text_of(alloc: Global, writes: &[Write]) -> Option<Vec<u8>> {
-    match bulk_text(alloc, writes) {
-        Ok(text) => Some(text),
-        Err(AllocError) => bulk_text(alloc, writes).ok(),
-    }
-}
-
-fn has_text(alloc: Global, writes: &[Write]) -> Option<bool> {
-    let text = text_of(alloc, writes)?;
-    Some(BOTH.get(BEGUN.len()..) == Some(text.as_slice()))
-}
-
-fn two_writes(alloc: Global) -> Option<[Write; 2]> {
-    let one = write_of(alloc, 7)?;
-    let Some(other) = write_of(alloc, 8) else {
-        mem::forget(one);
-        return None;
+// Whether the text of two writes is made, by a second call if the first was refused.
+fn has_text(rt: &impl Abort, alloc: Global, writes: &[Write]) -> bool {
+    let text = match bulk_text(alloc, writes) {
+        Ok(text) => text,
+        Err(AllocError) => bulk_text(alloc, writes).expect(rt, "a text"),
     };
-    Some([one, other])
-}
-
-fn are_appended(alloc: Global) -> Option<bool> {
-    let writes = two_writes(alloc)?;
-    let good = has_all(alloc, writes.as_slice()) == Some(true)
-        && has_text(alloc, writes.as_slice()) == Some(true);
-    mem::forget(writes);
-    Some(good)
+    BOTH.get(BEGUN.len()..) == Some(text.as_slice())
 }
 
 #[test]
 fn refused_bulk_text(rt: HostRuntime) {
-    assert!(rt; are_appended(rt.alloc()) == Some(true));
+    let alloc = rt.alloc();
+    let writes = [indexing(&rt, alloc), deletion(&rt, alloc)];
+    assert!(rt; has_all(&rt, alloc, writes.as_slice()) && has_text(&rt, alloc, writes.as_slice()));
+    mem::forget(writes);
 }
 
 fn stream_once(alloc: Global, input: &[u8]) -> Option<MemStream> {
     MemStream::new(alloc, input.to_vec(alloc).ok()?, 1_000, 7, 0).ok()
 }
 
-fn stream_of(alloc: Global, input: &[u8]) -> Option<MemStream> {
+fn stream_of(rt: &impl Abort, alloc: Global, input: &[u8]) -> MemStream {
     match stream_once(alloc, input) {
-        None => stream_once(alloc, input),
-        made => made,
+        Some(stream) => stream,
+        None => stream_once(alloc, input).expect(rt, "a stream"),
     }
 }
 
@@ -169,40 +140,28 @@ fn goes_out(alloc: Global, out: &mut MemStream, write: &Write) -> bool {
     }
 }
 
-fn has_gone_out(alloc: Global, write: &Write) -> Option<bool> {
-    let mut out = stream_of(alloc, b"")?;
+fn has_gone_out(rt: &impl Abort, alloc: Global, write: &Write) -> bool {
+    let mut out = stream_of(rt, alloc, b"");
     let good = goes_out(alloc, &mut out, write)
-        && INDEXED.get(BEGUN.len()..) == Some(out.written());
+        & (INDEXED.get(BEGUN.len()..) == Some(out.written()));
     mem::forget(out);
-    Some(good)
-}
-
-fn writes_out(alloc: Global) -> Option<bool> {
-    let write = write_of(alloc, 7)?;
-    let good = has_gone_out(alloc, &write);
-    mem::forget(write);
     good
 }
 
 #[test]
 fn refused_writes_to_a_stream(rt: HostRuntime) {
-    assert!(rt; writes_out(rt.alloc()) == Some(true));
+    let write = indexing(&rt, rt.alloc());
+    assert!(rt; has_gone_out(&rt, rt.alloc(), &write));
+    mem::forget(write);
 }
 
-fn is_write(write: &Write, version: u64) -> bool {
-    let source = match &write.action {
-        Action::Index(source) => Some(source.text()),
-        Action::Delete => None,
-    };
-    write.key.id() == ID
-        && write.key.index() == "books"
-        && write.version == version
-        && source == (if version == 7 { Some(SOURCE) } else { None })
+fn is_write(write: &Write, version: u64, source: Option<&str>) -> bool {
+    is_of(&write.key, "books", ID) && write.version == version && has_source(&write.action, source)
 }
 
 fn are_writes(writes: &[Write]) -> bool {
     match writes {
-        [one, other] => is_write(one, 7) && is_write(other, 8),
+        [one, other] => is_write(one, 7, Some(SOURCE)) && is_write(other, 8, None),
         _ => false,
     }
 }
@@ -243,14 +202,10 @@ const ACTIONS: &[(&[u8], &str)] = &[
     ),
 ];
 
-fn is_document(key: &DocKey, id: &str) -> bool {
-    key.index() == "books" && key.id() == id
-}
-
 // Whether an action line is read as the index action on the document of this id.
 fn read_key(alloc: Global, line: &[u8], scratch: &mut Scratch, id: &str) -> Result<bool, LineKind> {
     match read_action(alloc, None, line, scratch) {
-        Ok((kind, key)) => Ok(kind == ActionKind::Index && is_document(&key, id)),
+        Ok((kind, key)) => Ok(kind == ActionKind::Index && is_of(&key, "books", id)),
         Err(kind) => Err(kind),
     }
 }
@@ -280,16 +235,9 @@ fn reads_members(alloc: Global, line: &[u8]) -> bool {
     }
 }
 
-fn is_source(action: &Action) -> bool {
-    match action {
-        Action::Index(source) => source.text() == SOURCE,
-        Action::Delete => false,
-    }
-}
-
 fn read_text(alloc: Global) -> Result<bool, LineKind> {
     let action = read_source(alloc, SOURCE.as_bytes())?;
-    Ok(is_source(&action))
+    Ok(has_source(&action, Some(SOURCE)))
 }
 
 fn reads_text(alloc: Global) -> bool {
@@ -322,11 +270,11 @@ enum Step {
 }
 
 fn step_to(key: &DocKey, action: &Action) -> Step {
-    if !is_document(key, ID) {
+    if !is_of(key, "books", ID) {
         Step::Other
-    } else if is_source(action) {
+    } else if has_source(action, Some(SOURCE)) {
         Step::Indexes
-    } else if matches!(action, Action::Delete) {
+    } else if has_source(action, None) {
         Step::Deletes
     } else {
         Step::Other
@@ -423,31 +371,35 @@ fn read_all<S: Steps>(input: &mut S) -> Reading {
     }
 }
 
-fn read_input(alloc: Global) -> Option<Reading> {
-    let mut input = Input::new(alloc, stream_of(alloc, INPUT)?, None);
-    Some(read_all(&mut input))
+fn read_input(rt: &impl Abort, alloc: Global) -> Reading {
+    let mut input = Input::new(alloc, stream_of(rt, alloc, INPUT), None);
+    read_all(&mut input)
 }
 
 #[test]
 fn refused_input(rt: HostRuntime) {
-    let first = read_input(rt.alloc());
-    assert!(rt; first == Some(Reading::Whole) || first == Some(Reading::Refused));
-    assert!(rt; first == Some(Reading::Whole) || read_input(rt.alloc()) == Some(Reading::Whole));
+    let first = read_input(&rt, rt.alloc());
+    assert!(rt;
+        first == Reading::Whole
+            || first == Reading::Refused && read_input(&rt, rt.alloc()) == Reading::Whole
+    );
 }
 
-fn parse_input(alloc: Global) -> Option<Reading> {
+fn parse_input(rt: &impl Abort, alloc: Global) -> Reading {
     let mut parsing = Parsing {
         parser: Parser::new(alloc, None),
-        stream: stream_of(alloc, INPUT)?,
+        stream: stream_of(rt, alloc, INPUT),
     };
-    Some(read_all(&mut parsing))
+    read_all(&mut parsing)
 }
 
 #[test]
 fn refused_parser(rt: HostRuntime) {
-    let first = parse_input(rt.alloc());
-    assert!(rt; first == Some(Reading::Whole) || first == Some(Reading::Refused));
-    assert!(rt; first == Some(Reading::Whole) || parse_input(rt.alloc()) == Some(Reading::Whole));
+    let first = parse_input(&rt, rt.alloc());
+    assert!(rt;
+        first == Reading::Whole
+            || first == Reading::Refused && parse_input(&rt, rt.alloc()) == Reading::Whole
+    );
 }
 
 // Whether the next action line of the input asks for an action of this kind.
@@ -458,7 +410,7 @@ fn asks(
     wanted: ActionKind,
 ) -> Result<bool, LineKind> {
     match lines.next_action(alloc, stream, None) {
-        Ok(Some((kind, key))) => Ok(kind == wanted && is_document(&key, ID)),
+        Ok(Some((kind, key))) => Ok(kind == wanted && is_of(&key, "books", ID)),
         Ok(None) => Ok(false),
         Err(fault) => Err(fault.kind),
     }
@@ -466,7 +418,7 @@ fn asks(
 
 fn stores(lines: &mut LineReader, alloc: Global, stream: &mut MemStream) -> Result<bool, LineKind> {
     match lines.next_source(alloc, stream) {
-        Ok(action) => Ok(is_source(&action)),
+        Ok(action) => Ok(has_source(&action, Some(SOURCE))),
         Err(fault) => Err(fault.kind),
     }
 }
@@ -482,20 +434,21 @@ fn takes_operations(
 }
 
 // Whether the lines of the two operations are taken, or why not.
-fn take_operations(alloc: Global) -> Option<Result<bool, LineKind>> {
-    let mut stream = stream_of(alloc, INPUT)?;
+fn take_operations(rt: &impl Abort, alloc: Global) -> Result<bool, LineKind> {
+    let mut stream = stream_of(rt, alloc, INPUT);
     let mut lines = LineReader::new(alloc);
     let taken = takes_operations(&mut lines, alloc, &mut stream);
     mem::forget((stream, lines));
-    Some(taken)
+    taken
 }
 
 #[test]
 fn refused_lines_of_operations(rt: HostRuntime) {
-    let whole = Some(Ok(true));
-    let first = take_operations(rt.alloc());
-    assert!(rt; first == whole || first == Some(Err(LineKind::Memory)));
-    assert!(rt; first == whole || take_operations(rt.alloc()) == whole);
+    let first = take_operations(&rt, rt.alloc());
+    assert!(rt;
+        first == Ok(true)
+            || first == Err(LineKind::Memory) && take_operations(&rt, rt.alloc()) == Ok(true)
+    );
 }
 
 /// Lines, each with a different end, and the input that consists of them.
@@ -534,15 +487,15 @@ fn takes_each(lines: &mut LineReader, stream: &mut MemStream) -> bool {
     lines.next(stream) == Ok(false)
 }
 
-fn takes_lines(alloc: Global) -> Option<bool> {
-    let mut stream = stream_of(alloc, TEXT)?;
+fn takes_lines(rt: &impl Abort, alloc: Global) -> bool {
+    let mut stream = stream_of(rt, alloc, TEXT);
     let mut lines = LineReader::new(alloc);
     let good = takes_each(&mut lines, &mut stream);
     mem::forget((stream, lines));
-    Some(good)
+    good
 }
 
 #[test]
 fn refused_line_reader(rt: HostRuntime) {
-    assert!(rt; takes_lines(rt.alloc()) == Some(true));
+    assert!(rt; takes_lines(&rt, rt.alloc()));
 }

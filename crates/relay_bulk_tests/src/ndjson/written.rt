@@ -1,5 +1,6 @@
 //! Bulk text and its length, and a write that fails in the middle.
-use relay_action::{Action, DocKey, MemStream, Write};
+use crate::writes::write_of;
+use relay_action::{MemStream, Write};
 use relay_ndjson::{
     TextFault, append_action_line, append_bulk, append_write, bulk_len, bulk_text, has_escapes,
     write_len, write_write,
@@ -12,50 +13,40 @@ const TWO_LINES: &[u8] =
     b"{\"index\":{\"_id\":\"1\",\"_index\":\"books\",\"version\":1,\"version_type\":\"external\"}}\n{\"title\": \"Emma\"}\n{\"delete\":{\"_id\":\"2\",\"_index\":\"books\",\"version\":2,\"version_type\":\"external\"}}\n";
 
 // The write of the first line and its source.
-fn indexing(rt: &impl Abort, alloc: Global) -> Write {
-    Write {
-        key: DocKey::new(alloc, "books", "1").expect(rt, "a key"),
-        version: 1,
-        action: Action::index(alloc, "{\"title\": \"Emma\"}").expect(rt, "a source"),
-    }
+fn indexing(rt: &(impl Abort + AllocGlobal)) -> Write {
+    write_of(rt, "books", "1", 1, Some("{\"title\": \"Emma\"}"))
 }
 
 // The delete of the last line.
-fn deletion(rt: &impl Abort, alloc: Global) -> Write {
-    Write {
-        key: DocKey::new(alloc, "books", "2").expect(rt, "a key"),
-        version: 2,
-        action: Action::delete(),
-    }
+fn deletion(rt: &(impl Abort + AllocGlobal)) -> Write {
+    write_of(rt, "books", "2", 2, None)
 }
 
 // An index action and a delete, with the versions 1 and 2.
-fn two_writes(rt: &impl Abort, alloc: Global) -> Vec<Write> {
-    let mut writes = Vec::new(alloc);
-    writes.push(indexing(rt, alloc)).expect(rt, "memory");
-    writes.push(deletion(rt, alloc)).expect(rt, "memory");
+fn two_writes(rt: &(impl Abort + AllocGlobal)) -> Vec<Write> {
+    let mut writes = Vec::new(rt.alloc());
+    writes.push(indexing(rt)).expect(rt, "memory");
+    writes.push(deletion(rt)).expect(rt, "memory");
     writes
+}
+
+// Whether this is the bulk text of some writes.
+fn is_text(rt: &(impl Abort + AllocGlobal), writes: &[Write], wanted: &[u8]) -> bool {
+    let text = bulk_text(rt.alloc(), writes).expect(rt, "memory");
+    text.as_slice() == wanted
 }
 
 #[test]
 fn bulk_text_of_two_writes(rt: HostRuntime) {
-    let writes = two_writes(&rt, rt.alloc());
-    let text = bulk_text(rt.alloc(), &writes).expect(&rt, "memory");
-    assert!(rt; text.as_slice() == TWO_LINES);
-    assert!(rt; writes.len() == 2);
-    assert!(rt; bulk_len(&writes) == 173 && write_len(&writes[1]) == 78);
-}
-
-#[test]
-fn no_write_has_no_text(rt: HostRuntime) {
-    let text = bulk_text(rt.alloc(), &[]).expect(&rt, "memory");
-    assert!(rt; text.is_empty());
+    let writes = two_writes(&rt);
+    assert!(rt; is_text(&rt, &writes, TWO_LINES) && is_text(&rt, &[], b""));
+    assert!(rt; writes.len() == 2 && bulk_len(&writes) == 173 && write_len(&writes[1]) == 78);
 }
 
 // The text of a write is added to what was there before.
 #[test]
 fn a_write_is_appended(rt: HostRuntime) {
-    let write = deletion(&rt, rt.alloc());
+    let write = deletion(&rt);
     let mut text = b"x".to_vec(rt.alloc()).expect(&rt, "memory");
     append_write(rt.alloc(), &mut text, &write).expect(&rt, "memory");
     assert!(rt; text.len() == 79 && text.as_slice().starts_with(b"x{\"delete\""));
@@ -71,8 +62,8 @@ fn is_appended(text: &[u8]) -> bool {
 // lines of both writes.
 #[test]
 fn an_action_line_and_writes_are_appended(rt: HostRuntime) {
-    let write = indexing(&rt, rt.alloc());
-    let writes = two_writes(&rt, rt.alloc());
+    let write = indexing(&rt);
+    let writes = two_writes(&rt);
     let mut text = b"x".to_vec(rt.alloc()).expect(&rt, "memory");
     append_action_line(rt.alloc(), &mut text, &write).expect(&rt, "memory");
     append_bulk(&mut text, &writes).expect(&rt, "memory");
@@ -80,22 +71,14 @@ fn an_action_line_and_writes_are_appended(rt: HostRuntime) {
     mem::forget((write, writes));
 }
 
-// A delete with texts of which some characters are escaped in JSON strings and others are not.
-fn deletion_of_signs(rt: &impl Abort, alloc: Global) -> Write {
-    let id = "\u{8}\t\n\u{c}\r\"\\/\u{1f}";
-    Write {
-        key: DocKey::new(alloc, "é\u{7f}", id).expect(rt, "a key"),
-        version: 18_446_744_073_709_551_615,
-        action: Action::delete(),
-    }
-}
-
-// The delete is written as these bytes, and has their length.
+// A delete with texts of which some characters are escaped in JSON strings and others are not is
+// written as these bytes, and has their length.
 #[test]
 fn texts_are_escaped(rt: HostRuntime) {
     let wanted =
         b"{\"delete\":{\"_id\":\"\\b\\t\\n\\f\\r\\\"\\\\/\\u001f\",\"_index\":\"\xc3\xa9\x7f\",\"version\":18446744073709551615,\"version_type\":\"external\"}}\n";
-    let write = deletion_of_signs(&rt, rt.alloc());
+    let id = "\u{8}\t\n\u{c}\r\"\\/\u{1f}";
+    let write = write_of(&rt, "é\u{7f}", id, u64::MAX, None);
     assert!(rt; has_escapes(&write) && write_len(&write) == wanted.len() as u64);
     let nothing = Vec::new(rt.alloc());
     let mut out = MemStream::new(rt.alloc(), nothing, 1000, 3, 0).expect(&rt, "memory");
@@ -123,7 +106,7 @@ fn written_until(
 // written.
 #[test]
 fn each_write_fails_in_turn(rt: HostRuntime) {
-    let write = deletion(&rt, rt.alloc());
+    let write = deletion(&rt);
     for fail_at in 1..12u64 {
         let sent = 7 * (fail_at - 1);
         let failed = Err(TextFault::Write { sent });

@@ -1,6 +1,7 @@
 //! Replies, with any one of their allocations refused (`make refusals`): the refusal is reported,
 //! and the call succeeds when it is repeated.
-use relay_action::{ActionFault, ActionKind, DocKey};
+use crate::writes::key_again;
+use relay_action::ActionKind;
 use relay_results::{
     DoneResult, ErrorDetail, ItemDone, ItemError, Outcome, ReplyFault, VersionConflict,
     read_refusal, read_reply, write_reply,
@@ -22,16 +23,9 @@ const VERSIONS: VersionConflict = VersionConflict {
     provided: 9,
 };
 
-fn key_of(alloc: Global) -> Result<DocKey, ActionFault> {
-    match DocKey::new(alloc, "books", ID) {
-        Err(ActionFault::Memory) => DocKey::new(alloc, "books", ID),
-        made => made,
-    }
-}
-
 fn item(rt: &impl Abort, alloc: Global, status: u16, became: DoneResult) -> ItemDone {
     ItemDone {
-        key: key_of(alloc).expect(rt, "a key"),
+        key: key_again(rt, alloc, ID),
         kind: ActionKind::Index,
         status,
         result: became,

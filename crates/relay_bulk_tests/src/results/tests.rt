@@ -1,5 +1,6 @@
 //! Reading and writing replies, matching, and verdicts.
-use relay_action::{Action, ActionKind, DocKey, Write};
+use crate::writes::write_of;
+use relay_action::{ActionKind, DocKey, Write};
 use relay_results::{
     DoneResult, ItemDone, ItemVerdict, Outcome, ReplyFault, matches, read_reply, verdict,
     write_reply,
@@ -7,24 +8,6 @@ use relay_results::{
 use std::alloc::Global;
 use std::mem;
 use std::process::Abort;
-
-// A write of the document with this id.
-fn write_of(rt: &(impl Abort + AllocGlobal), id: &str, action: Action) -> Write {
-    Write {
-        key: DocKey::new(rt.alloc(), "b", id).expect(rt, "a key"),
-        version: 1,
-        action,
-    }
-}
-
-// An index write of id `1`.
-fn index_write(rt: &(impl Abort + AllocGlobal)) -> Write {
-    write_of(
-        rt,
-        "1",
-        Action::index(rt.alloc(), "{}").expect(rt, "an action"),
-    )
-}
 
 // Whether a reply has this fault.
 fn has_fault(alloc: Global, text: &[u8], fault: ReplyFault) -> bool {
@@ -245,16 +228,33 @@ fn says_one(
     fit: bool,
 ) -> bool {
     let outcomes = entries_of(rt, text);
-    is_one(&outcomes, status, error) && matches(&outcomes, request) == fit
+    is_one(&outcomes, status, error) & (matches(&outcomes, request) == fit)
 }
 
 // The content of a single entry, and whether the reply matches an index write of id `1`.
 #[test]
 fn entries(rt: HostRuntime) {
-    let request = [index_write(&rt)];
+    let request = [write_of(&rt, "b", "1", 1, Some("{}"))];
     for (text, status, error, fit) in ENTRIES {
         assert!(rt; says_one(&rt, *text, *status, *error, &request, *fit));
     }
+}
+
+// An entry: its action, its document, its status and its error.
+type Entry = (ActionKind, &'static str, u16, Option<&'static str>);
+
+fn are_entries(outcomes: &[Outcome], wanted: &[Entry]) -> bool {
+    for (outcome, (kind, id, status, error)) in outcomes.iter().zip(wanted) {
+        if !is_entry(outcome, *kind, *id, *status, *error) {
+            return false;
+        }
+    }
+    outcomes.len() == wanted.len()
+}
+
+// Whether a reply has these entries.
+fn has_entries(rt: &(impl Abort + AllocGlobal), text: &str, wanted: &[Entry]) -> bool {
+    are_entries(&entries_of(rt, text), wanted)
 }
 
 // A reply in the usual form to a delete of the document 1, in five parts.
@@ -265,6 +265,9 @@ const USUAL: [&str; 5] = [
     "\"_seq_no\":0,\"_primary_term\":1,\"status\":200}}",
     "]}",
 ];
+
+// What it says: a delete of the document 1 with status 200 and no error.
+const DELETION: &[Entry] = &[(ActionKind::Delete, "1", 200, None)];
 
 // The position of a part, its replacement, and the fault of that reply.
 const FORMS: &[(usize, &str, Option<ReplyFault>)] = &[
@@ -310,21 +313,6 @@ const FORMS: &[(usize, &str, Option<ReplyFault>)] = &[
     (4, ",]}", Some(ReplyFault::NotJson)),
 ];
 
-// Whether these are one entry, a delete of the document 1 with status 200 and no error.
-fn is_deletion(outcomes: &[Outcome]) -> bool {
-    match outcomes {
-        [one] => is_entry(one, ActionKind::Delete, "1", 200, None),
-        _ => false,
-    }
-}
-
-fn says_deletion(alloc: Global, text: &[u8]) -> Result<bool, ReplyFault> {
-    match read_reply(alloc, text) {
-        Ok(outcomes) => Ok(is_deletion(&outcomes)),
-        Err(fault) => Err(fault),
-    }
-}
-
 // Whether a reply with that part has this fault, or else that entry.
 fn is_read(
     rt: &(impl Abort + AllocGlobal),
@@ -335,10 +323,9 @@ fn is_read(
     let mut parts = USUAL;
     *parts.get_mut(place).expect(rt, "a part") = part;
     let text = parts.concat(rt.alloc()).expect(rt, "memory");
-    let said = says_deletion(rt.alloc(), text.as_bytes());
     match fault {
-        Some(fault) => said == Err(fault),
-        None => said == Ok(true),
+        Some(fault) => has_fault(rt.alloc(), text.as_bytes(), fault),
+        None => has_entries(rt, text.as_str(), DELETION),
     }
 }
 
@@ -349,23 +336,6 @@ fn forms_of_replies(rt: HostRuntime) {
     for (place, part, fault) in FORMS {
         assert!(rt; is_read(&rt, *place, *part, *fault));
     }
-}
-
-// An entry: its action, its document, its status and its error.
-type Entry = (ActionKind, &'static str, u16, Option<&'static str>);
-
-fn are_entries(outcomes: &[Outcome], wanted: &[Entry]) -> bool {
-    for (outcome, (kind, id, status, error)) in outcomes.iter().zip(wanted) {
-        if !is_entry(outcome, *kind, *id, *status, *error) {
-            return false;
-        }
-    }
-    outcomes.len() == wanted.len()
-}
-
-// Whether a reply has these entries.
-fn has_entries(rt: &(impl Abort + AllocGlobal), text: &str, wanted: &[Entry]) -> bool {
-    are_entries(&entries_of(rt, text), wanted)
 }
 
 // All entries of a reply in the usual form, in order.
@@ -438,7 +408,10 @@ const MATCHES: &[(&str, bool)] = &[
 
 #[test]
 fn matching(rt: HostRuntime) {
-    let writes = [index_write(&rt), write_of(&rt, "2", Action::delete())];
+    let writes = [
+        write_of(&rt, "b", "1", 1, Some("{}")),
+        write_of(&rt, "b", "2", 1, None),
+    ];
     for (text, wanted) in MATCHES {
         assert!(rt; fits(&rt, *text, &writes) == *wanted);
     }
@@ -551,10 +524,8 @@ fn written_replies(rt: HostRuntime) {
         item(&rt, ActionKind::Delete, 429, DoneResult::Refused, 0, 0),
     ];
     let none = "{\"errors\":false,\"items\":[],\"took\":7}";
-    assert!(rt; is_written(&rt, 7, &[], none));
     let first =
         "{\"errors\":false,\"items\":[{\"delete\":{\"_id\":\"2\",\"_index\":\"b\",\"_seq_no\":0,\"_version\":5,\"result\":\"not_found\",\"status\":404}}],\"took\":0}";
-    assert!(rt; is_written(&rt, 0, &items[..1], first));
     let all = "{\"errors\":true,\"items\":[\
         {\"delete\":{\"_id\":\"2\",\"_index\":\"b\",\"_seq_no\":0,\"_version\":5,\"result\":\"not_found\",\"status\":404}},\
         {\"index\":{\"_id\":\"2\",\"_index\":\"b\",\"error\":{\"type\":\"version_conflict_engine_exception\"},\"status\":409}},\
@@ -562,6 +533,10 @@ fn written_replies(rt: HostRuntime) {
         {\"index\":{\"_id\":\"2\",\"_index\":\"b\",\"_seq_no\":2,\"_version\":7,\"result\":\"updated\",\"status\":200}},\
         {\"delete\":{\"_id\":\"2\",\"_index\":\"b\",\"_seq_no\":3,\"_version\":8,\"result\":\"deleted\",\"status\":200}},\
         {\"delete\":{\"_id\":\"2\",\"_index\":\"b\",\"error\":{\"type\":\"scripted_refusal\"},\"status\":429}}],\"took\":0}";
-    assert!(rt; is_written(&rt, 0, &items, all));
+    assert!(rt;
+        is_written(&rt, 7, &[], none)
+            && is_written(&rt, 0, &items[..1], first)
+            && is_written(&rt, 0, &items, all)
+    );
     mem::forget(items);
 }

@@ -1,5 +1,5 @@
 //! Each refusal of each event, in order.
-use crate::world::script::{Row, Says, THREE, lasts};
+use crate::world::script::{Row, Says, Script, THREE, lasts};
 use relay_core::RelayConfig;
 use relay_world::Refusal;
 
@@ -36,11 +36,6 @@ const OF_SENDERS: &[(Row<'static>, Says)] = &[
     (Row::Close(2, 0), Says::Ok),
 ];
 
-#[test]
-fn of_senders(rt: HostRuntime) {
-    assert!(rt; lasts(&rt, rt.alloc(), SMALL, OF_SENDERS, &[], &[], false));
-}
-
 /// Events of requests that were not sent, are no longer in flight, or have no such item.
 const OF_REQUESTS: &[(Row<'static>, Says)] = &[
     (Row::Run(1, 1), Says::No(Refusal::NotSent)),
@@ -66,17 +61,14 @@ const OF_REQUESTS: &[(Row<'static>, Says)] = &[
     (Row::Run(1, 1), Says::Status(404)),
 ];
 
+const CAUSES: &[Script] = &[
+    (SMALL, [OF_SENDERS, &[]], (&[], &[]), false),
+    (THREE, [OF_REQUESTS, &[]], (&[("1", &[1])], &[]), false),
+];
+
 #[test]
-fn of_requests(rt: HostRuntime) {
-    assert!(rt;
-        lasts(
-            &rt,
-            rt.alloc(),
-            THREE,
-            OF_REQUESTS,
-            &[("1", &[1])],
-            &[],
-            false
-        )
-    );
+fn causes_in_order(rt: HostRuntime) {
+    for script in CAUSES {
+        assert!(rt; lasts(&rt, rt.alloc(), script));
+    }
 }

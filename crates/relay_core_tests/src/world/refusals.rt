@@ -1,9 +1,9 @@
 //! Events, with any one of their allocations refused (`make refusals`): the refusal changes
 //! nothing, and the event succeeds when it is repeated.
-use crate::world::script::{Row, Says, THREE, accepts, ends_with, event_of, events_of, is_said};
-use crate::world::worked::{
-    APPLIED_BUT_GIVEN_UP, Ends, GIVEN_UP, THREE_APPLIED, THREE_THEN_ONE, TWO,
+use crate::world::script::{
+    Ends, Row, Says, THREE, accepts, ends_with, event_of, events_of, is_said,
 };
+use crate::world::worked::{APPLIED_BUT_GIVEN_UP, GIVEN_UP, THREE_APPLIED, THREE_THEN_ONE, TWO};
 use relay_action::{Action, DocKey};
 use relay_core::RelayConfig;
 use relay_fixtures::keys::key_of;

@@ -83,18 +83,6 @@ fn goes_so(
         && world.finished() == end.finished
 }
 
-/// Whether a fresh world with a config does.
-fn goes(
-    rt: &impl Abort,
-    alloc: Global,
-    config: RelayConfig,
-    rows: &[(Row<'_>, Says)],
-    end: &End<'_>,
-) -> bool {
-    let world = world_of(rt, alloc, config);
-    goes_so(rt, alloc, world, rows, end)
-}
-
 const FIRST_OF_ONE: u64 = 1_099_511_627_777;
 
 /// A restart while a request is in flight: it may still run, and settles nothing.
@@ -114,17 +102,6 @@ const RESTARTED: &[(Row<'static>, Says)] = &[
     (Row::Restart(1), Says::No(Refusal::NotAbove)),
 ];
 
-#[test]
-fn restarted(rt: HostRuntime) {
-    let end = End {
-        accepted: &[1],
-        applied: &[("1", &[(1, (0, 0, 1)), (FIRST_OF_ONE, (1, 0, 1))])],
-        reports: &[],
-        finished: false,
-    };
-    assert!(rt; goes(&rt, rt.alloc(), THREE, RESTARTED, &end));
-}
-
 const EPOCHS: &[(Row<'static>, Says)] = &[
     (Row::Restart(0), Says::No(Refusal::NotAbove)),
     (Row::Restart(4_194_304), Says::No(Refusal::NotAbove)),
@@ -137,17 +114,6 @@ const EPOCHS: &[(Row<'static>, Says)] = &[
     (Row::Restart(4_194_303), Says::No(Refusal::NotAbove)),
     (Row::Put(0, "1", ""), Says::Name(4_194_303, 0, 1)),
 ];
-
-#[test]
-fn not_above(rt: HostRuntime) {
-    let end = End {
-        accepted: &[1],
-        applied: &[],
-        reports: &[],
-        finished: false,
-    };
-    assert!(rt; goes(&rt, rt.alloc(), THREE, EPOCHS, &end));
-}
 
 /// One version per lane, in epoch 8.
 const LAST: RelayConfig = RelayConfig {
@@ -171,17 +137,6 @@ const ONE_IN_EIGHT: &[(Row<'static>, Says)] = &[
     (Row::Close(0, 0), Says::Ok),
     (Row::Put(0, "3", ""), Says::No(Refusal::Closed)),
 ];
-
-#[test]
-fn the_last_version(rt: HostRuntime) {
-    let end = End {
-        accepted: &[2],
-        applied: &[("1", &[(8_796_093_022_209, (8, 0, 1))])],
-        reports: &[((8, 0, 2), Given::Spent(2))],
-        finished: false,
-    };
-    assert!(rt; goes(&rt, rt.alloc(), LAST, ONE_IN_EIGHT, &end));
-}
 
 /// Two lanes, the first of which has the documents with an even id, and two producers.
 const TWO_LANES: RelayConfig = RelayConfig {
@@ -336,25 +291,11 @@ const THREE_LIVES: &[(Row<'static>, Says)] = &[
     (Row::Restart(4), Says::No(Refusal::NotAbove)),
 ];
 
-#[test]
-fn a_second_restart(rt: HostRuntime) {
-    let writes = [
-        (1, (0, 0, 1)),
-        (FIRST_OF_ONE, (1, 0, 1)),
-        (5_497_558_138_881, (5, 0, 1)),
-    ];
-    let end = End {
-        accepted: &[1],
-        applied: &[("1", &writes)],
-        reports: &[],
-        finished: false,
-    };
-    assert!(rt; goes(&rt, rt.alloc(), THREE, THREE_LIVES, &end));
-}
-
 /// One version per lane, in epoch 0.
 const ONE_VERSION: RelayConfig = RelayConfig { deal: 1, ..THREE };
 
+// The operation that got no version in epoch 0 is not the one that has the second version of epoch
+// 1.
 const SPENT: &[(Row<'static>, Says)] = &[
     (Row::Put(0, "1", "{}"), Says::Name(0, 0, 1)),
     (Row::Put(0, "1", "{}"), Says::Name(0, 0, 2)),
@@ -368,17 +309,73 @@ const SPENT: &[(Row<'static>, Says)] = &[
     (Row::Reply(1, &[]), Says::Counts([1, 0, 0, 0])),
 ];
 
-// The operation that got no version in epoch 0 is not the one that has the second version of epoch
-// 1.
+/// Scripts with restarts, or epochs at their limits, on a fresh world with a config, and how they end.
+const LIVES: &[(RelayConfig, &[(Row<'static>, Says)], End<'static>)] = &[
+    (
+        THREE,
+        RESTARTED,
+        End {
+            accepted: &[1],
+            applied: &[("1", &[(1, (0, 0, 1)), (FIRST_OF_ONE, (1, 0, 1))])],
+            reports: &[],
+            finished: false,
+        },
+    ),
+    (
+        THREE,
+        EPOCHS,
+        End {
+            accepted: &[1],
+            applied: &[],
+            reports: &[],
+            finished: false,
+        },
+    ),
+    (
+        LAST,
+        ONE_IN_EIGHT,
+        End {
+            accepted: &[2],
+            applied: &[("1", &[(8_796_093_022_209, (8, 0, 1))])],
+            reports: &[((8, 0, 2), Given::Spent(2))],
+            finished: false,
+        },
+    ),
+    (
+        THREE,
+        THREE_LIVES,
+        End {
+            accepted: &[1],
+            applied: &[(
+                "1",
+                &[
+                    (1, (0, 0, 1)),
+                    (FIRST_OF_ONE, (1, 0, 1)),
+                    (5_497_558_138_881, (5, 0, 1)),
+                ],
+            )],
+            reports: &[],
+            finished: false,
+        },
+    ),
+    (
+        ONE_VERSION,
+        SPENT,
+        End {
+            accepted: &[1],
+            applied: &[("1", &[(FIRST_OF_ONE, (1, 0, 1))])],
+            reports: &[],
+            finished: false,
+        },
+    ),
+];
+
 #[test]
-fn spent_before_a_restart(rt: HostRuntime) {
-    let end = End {
-        accepted: &[1],
-        applied: &[("1", &[(FIRST_OF_ONE, (1, 0, 1))])],
-        reports: &[],
-        finished: false,
-    };
-    assert!(rt; goes(&rt, rt.alloc(), ONE_VERSION, SPENT, &end));
+fn one_life_after_another(rt: HostRuntime) {
+    for (config, rows, end) in LIVES {
+        let world = world_of(&rt, rt.alloc(), *config);
+        assert!(rt; goes_so(&rt, rt.alloc(), world, *rows, end));
+    }
 }
 
 /// Three deletes in one request, which is too large as a whole: each is sent by itself, the second

@@ -219,35 +219,25 @@ pub fn ends_with(
     Ok(good)
 }
 
-/// Whether a fresh world with a config answers these rows as they say, and then ends like this.
-pub fn lasts(
-    rt: &impl Abort,
-    alloc: Global,
-    config: RelayConfig,
-    rows: &[(Row<'_>, Says)],
-    applied: &[(&str, &[u64])],
-    reports: &[Given],
-    finished: bool,
-) -> bool {
-    let world = world_of(rt, alloc, config);
-    played(rt, alloc, world, rows)
-        && ends_with(alloc, world, applied, reports, finished).expect(rt, "keys")
-}
+/// What becomes of a script: the operations applied to documents, and the reports.
+pub type Ends = (&'static [(&'static str, &'static [u64])], &'static [Given]);
 
-/// The same, with more rows at the end, after which it is not finished.
-pub fn lasts_with(
-    rt: &impl Abort,
-    alloc: Global,
-    config: RelayConfig,
-    rows: &[(Row<'_>, Says)],
-    more: &[(Row<'_>, Says)],
-    applied: &[(&str, &[u64])],
-    reports: &[Given],
-) -> bool {
+/// A config, the rows of a script in two parts, what becomes of it, and whether the world is finished
+/// then.
+pub type Script = (
+    RelayConfig,
+    [&'static [(Row<'static>, Says)]; 2],
+    Ends,
+    bool,
+);
+
+/// Whether a fresh world answers the rows of a script as they say, and then ends like it.
+pub fn lasts(rt: &impl Abort, alloc: Global, script: &Script) -> bool {
+    let (config, [rows, more], (applied, reports), finished) = *script;
     let world = world_of(rt, alloc, config);
     played(rt, alloc, world, rows)
         && played(rt, alloc, world, more)
-        && ends_with(alloc, world, applied, reports, false).expect(rt, "keys")
+        && ends_with(alloc, world, applied, reports, finished).expect(rt, "keys")
 }
 
 fn add(alloc: Global, events: &mut Vec<Event>, row: &Row<'_>) -> Result<(), ActionFault> {

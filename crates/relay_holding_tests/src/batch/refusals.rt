@@ -1,6 +1,6 @@
 //! Offers, with any one of their allocations refused (`make refusals`).
 use crate::batch::tests::item;
-use relay_batch::{Batcher, Limits, Offer};
+use relay_batch::{BatchItem, Batcher, Limits, Offer};
 use std::alloc::AllocError;
 
 const LIMITS: Limits = Limits {
@@ -21,17 +21,16 @@ fn adds(batcher: &mut Batcher, doc: u64) -> bool {
     }
 }
 
-// The documents of the batch are those of the items, in their order.
-fn are_documents(batcher: Batcher, count: u64) -> bool {
-    let Some(batch) = batcher.close() else {
-        return false;
-    };
-    let same = batch
-        .items()
-        .iter()
-        .zip(0..count)
-        .all(|(found, doc)| found.doc == doc);
-    same && batch.items().len() as u64 == count
+// Whether the documents of the items are those from 0 to this one, in order.
+fn are_documents(items: &[BatchItem], count: u64) -> bool {
+    let mut doc = 0u64;
+    for item in items {
+        if item.doc != doc {
+            return false;
+        }
+        doc = doc.saturating_add(1);
+    }
+    doc == count
 }
 
 #[test]
@@ -40,5 +39,6 @@ fn refused_offers(rt: HostRuntime) {
     for doc in 0..40u64 {
         assert!(rt; adds(&mut batcher, doc));
     }
-    assert!(rt; are_documents(batcher, 40));
+    let batch = batcher.close().expect(&rt, "a batch");
+    assert!(rt; are_documents(batch.items(), 40));
 }

@@ -3,7 +3,6 @@ use relay_action::OpName;
 use relay_batch::{BatchItem, Batcher, Limits, Offer, Room, Tally};
 use std::alloc::{AllocError, Global};
 use std::process::Abort;
-use std::test::Fail;
 
 /// An item of a document, with this many bytes.
 pub fn item(doc: u64, bytes: u64, taken_at: u64) -> BatchItem {
@@ -178,9 +177,11 @@ fn ready_of_two(rt: &impl Abort, alloc: Global, linger: u32, taken_at: u64, now:
         linger,
     };
     let mut batcher = Batcher::new(alloc, limits);
-    assert!(rt; !batcher.ready(now));
-    assert!(rt; batcher.offer(item(1, 400, taken_at)) == Ok(Offer::Added));
-    assert!(rt; batcher.offer(item(2, 400, 0)) == Ok(Offer::Added));
+    assert!(rt;
+        !batcher.ready(now)
+            && batcher.offer(item(1, 400, taken_at)) == Ok(Offer::Added)
+            && batcher.offer(item(2, 400, 0)) == Ok(Offer::Added)
+    );
     batcher.ready(now)
 }
 
@@ -307,21 +308,20 @@ fn room_of_a_batch(rt: HostRuntime) {
 
 // Whether an item is added, by a second offer if the first one's allocation failed, and the batch
 // was unchanged then.
-fn is_added(batcher: &mut Batcher) -> Result<bool, AllocError> {
+fn is_added(batcher: &mut Batcher) -> bool {
     match batcher.offer(item(1, 1024, 10)) {
-        Ok(answer) => Ok(answer == Offer::Added),
+        Ok(answer) => answer == Offer::Added,
         Err(AllocError) => {
-            Ok(!batcher.ready(u64::MAX) && batcher.offer(item(1, 1024, 10))? == Offer::Added)
+            !batcher.ready(u64::MAX) && batcher.offer(item(1, 1024, 10)) == Ok(Offer::Added)
         }
     }
 }
 
 // A failed allocation is reported as out of memory, and the batch is unchanged.
 #[test]
-fn refusals(rt: HostRuntime) -> Result<(), Fail> {
+fn refusals(rt: HostRuntime) {
     let mut batcher = Batcher::new(rt.alloc(), LIMITS);
-    assert!(rt; is_added(&mut batcher)? && batcher.ready(10));
-    Ok(())
+    assert!(rt; is_added(&mut batcher) && batcher.ready(10));
 }
 
 // An item with a cap.
@@ -365,8 +365,16 @@ fn caps_close_a_batch(rt: HostRuntime) {
 #[test]
 fn caps_close_a_tally(rt: HostRuntime) {
     let mut tally = Tally::new(LIMITS);
-    assert!(rt; tally.offer(capped(1, 2)) == Offer::Added && !tally.ready(10));
-    assert!(rt; tally.offer(capped(2, 1)) == Offer::Closed && !tally.ready(10));
-    assert!(rt; tally.offer(capped(3, 3)) == Offer::Added && tally.ready(10));
-    assert!(rt; tally.offer(capped(4, 3)) == Offer::Closed && tally.ready(10));
+    assert!(rt;
+        tally.offer(capped(1, 2)) == Offer::Added
+            && !tally.ready(10)
+            && tally.offer(capped(2, 1)) == Offer::Closed
+            && !tally.ready(10)
+    );
+    assert!(rt;
+        tally.offer(capped(3, 3)) == Offer::Added
+            && tally.ready(10)
+            && tally.offer(capped(4, 3)) == Offer::Closed
+            && tally.ready(10)
+    );
 }

@@ -84,7 +84,15 @@ pub fn wait(desk: &mut Desk, ticks: u64) {
     desk.queue.tick(clock);
 }
 
-/// The operation that is due at a place.
-pub fn due_at(desk: &mut Desk, at: usize) -> Option<Entry> {
-    desk.queue.due_at(at)
+/// The version of an operation, or 0 if there is none.
+pub fn version_of(one: Option<Entry>) -> u64 {
+    match one {
+        Some(one) => one.version,
+        None => 0,
+    }
+}
+
+/// The version of the operation that is due at a place, or 0 if there is none.
+pub fn due_at(desk: &mut Desk, at: usize) -> u64 {
+    version_of(desk.queue.due_at(at))
 }

@@ -4,24 +4,25 @@ use relay_batch::Batch;
 use relay_flight::Flight;
 use std::alloc::{AllocError, Global};
 
-fn flight_of(alloc: Global) -> Option<Flight> {
-    match Flight::new(alloc, 40) {
+/// A table for this many requests, made again if an allocation is refused.
+pub fn flight_of(alloc: Global, room: u32) -> Option<Flight> {
+    match Flight::new(alloc, room) {
         Ok(flight) => Some(flight),
-        Err(AllocError) => Flight::new(alloc, 40).ok(),
+        Err(AllocError) => Flight::new(alloc, room).ok(),
     }
 }
 
-// A batch, gathered again if an allocation is refused.
-fn batch(alloc: Global, doc: u64) -> Option<Batch> {
-    gathered(alloc, doc)
-        .or_else(|_| gathered(alloc, doc))
-        .ok()?
-        .close()
+/// A batch, gathered again if an allocation is refused.
+pub fn batch_again(alloc: Global, doc: u64) -> Option<Batch> {
+    match gathered(alloc, doc) {
+        Ok(batcher) => batcher.close(),
+        Err(AllocError) => gathered(alloc, doc).ok()?.close(),
+    }
 }
 
 // Whether the next batch enters under this number.
 fn enters(alloc: Global, flight: &mut Flight, number: u64) -> Option<bool> {
-    let batch = batch(alloc, number)?;
+    let batch = batch_again(alloc, number)?;
     if flight.next() != number || number > 40 {
         return None;
     }
@@ -31,10 +32,7 @@ fn enters(alloc: Global, flight: &mut Flight, number: u64) -> Option<bool> {
 // A table that was made has its room, so no later call is refused.
 #[test]
 fn refused_tables(rt: HostRuntime) {
-    let Some(mut flight) = flight_of(rt.alloc()) else {
-        assert!(rt; false);
-        return;
-    };
+    let mut flight = flight_of(rt.alloc(), 40).expect(&rt, "a table");
     for number in 1..=40u64 {
         assert!(rt; enters(rt.alloc(), &mut flight, number) == Some(true));
     }

@@ -1,10 +1,10 @@
 //! Numbers, room and settling.
+use crate::flight::refusals::{batch_again, flight_of};
 use relay_action::{Action, DocKey, OpName, Write};
 use relay_batch::{Batch, BatchItem, Batcher, Limits};
 use relay_flight::{Flight, Request};
 use std::alloc::{AllocError, Global};
 use std::process::Abort;
-use std::test::Fail;
 
 // An item of a document.
 fn item(doc: u64) -> BatchItem {
@@ -54,12 +54,12 @@ fn deletes(alloc: Global, doc: u64) -> Option<Vec<Write>> {
 
 // The document of a batch's first item.
 fn document(batch: &Batch) -> Option<u64> {
-    batch.items().first().map(|item| item.doc)
+    Some(batch.items().first()?.doc)
 }
 
 // The version of the first write.
 fn version(writes: &[Write]) -> Option<u64> {
-    writes.first().map(|write| write.version)
+    Some(writes.first()?.version)
 }
 
 // Whether a batch has the item of this document and the other one.
@@ -120,18 +120,28 @@ fn goes_round(rt: &impl Abort, flight: &mut Flight, number: u64, doc: u64, again
 #[test]
 fn a_flight_of_one(rt: HostRuntime) {
     let mut flight = Flight::new(rt.alloc(), 1).expect(&rt, "memory");
-    assert!(rt; flight.next() == 1 && flight.oldest().is_none());
-    assert!(rt; number_of(&rt, &mut flight, rt.alloc(), 7) == Some(1));
-    assert!(rt; comes_back(&rt, &mut flight, rt.alloc(), 8) && flight.flying() == 1);
-    assert!(rt; goes_round(&rt, &mut flight, 1, 7, 2));
+    assert!(rt;
+        flight.next() == 1
+            && flight.oldest().is_none()
+            && number_of(&rt, &mut flight, rt.alloc(), 7) == Some(1)
+    );
+    assert!(rt;
+        comes_back(&rt, &mut flight, rt.alloc(), 8)
+            && flight.flying() == 1
+            && goes_round(&rt, &mut flight, 1, 7, 2)
+    );
     assert!(rt; flight.next() == 3 && flight.oldest() == Some(2));
 }
 
 #[test]
 fn a_flight_of_none(rt: HostRuntime) {
     let mut flight = Flight::new(rt.alloc(), 0).expect(&rt, "memory");
-    assert!(rt; comes_back(&rt, &mut flight, rt.alloc(), 7));
-    assert!(rt; flight.next() == 1 && flight.oldest().is_none() && flight.flying() == 0);
+    assert!(rt;
+        comes_back(&rt, &mut flight, rt.alloc(), 7)
+            && flight.next() == 1
+            && flight.oldest().is_none()
+            && flight.flying() == 0
+    );
     assert!(rt; flight.batch(1).is_none() && flight.writes(1).is_none());
     assert!(rt; flight.settle(1).is_none());
 }
@@ -150,24 +160,36 @@ const SETTLED: &[(u64, Option<u64>, Option<u64>, u32)] = &[
     (3, None, None, 0),
 ];
 
-// The contents of a request: its number, its document and the version of its write.
-fn holds(request: &Request) -> (u64, Option<u64>, Option<u64>) {
-    (
-        request.number,
-        document(&request.batch),
-        version(request.writes.as_slice()),
-    )
-}
-
 // Whether a number has a request with this document, or none.
 fn stands(flight: &Flight, number: u64, doc: Option<u64>) -> bool {
-    flight.batch(number).and_then(document) == doc && flight.writes(number).and_then(version) == doc
+    let found = match flight.batch(number) {
+        Some(batch) => document(batch),
+        None => None,
+    };
+    let written = match flight.writes(number) {
+        Some(writes) => version(writes),
+        None => None,
+    };
+    found == doc && written == doc
+}
+
+// Whether this is the request with a number and a document, or none if there is no document.
+fn is_settled(request: Option<Request>, number: u64, doc: Option<u64>) -> bool {
+    match request {
+        Some(request) => {
+            request.number == number
+                && doc.is_some()
+                && document(&request.batch) == doc
+                && version(request.writes.as_slice()) == doc
+        }
+        None => doc.is_none(),
+    }
 }
 
 // Whether a number has that request until it is settled, and none afterwards.
 fn settles(flight: &mut Flight, number: u64, doc: Option<u64>) -> bool {
     stands(flight, number, doc)
-        && flight.settle(number).map(|request| holds(&request)) == doc.map(|_| (number, doc, doc))
+        && is_settled(flight.settle(number), number, doc)
         && stands(flight, number, None)
 }
 
@@ -179,8 +201,12 @@ fn settling_out_of_order(rt: HostRuntime) {
         assert!(rt; number_of(&rt, &mut flight, rt.alloc(), doc) == Some(number));
     }
     for (number, doc, oldest, flying) in SETTLED {
-        assert!(rt; settles(&mut flight, *number, *doc));
-        assert!(rt; flight.oldest() == *oldest && flight.flying() == *flying && flight.next() == 4);
+        assert!(rt;
+            settles(&mut flight, *number, *doc)
+                && flight.oldest() == *oldest
+                && flight.flying() == *flying
+                && flight.next() == 4
+        );
     }
 }
 
@@ -190,45 +216,28 @@ fn numbers_are_not_used_again(rt: HostRuntime) {
     let mut flight = Flight::new(rt.alloc(), 2).expect(&rt, "memory");
     assert!(rt; number_of(&rt, &mut flight, rt.alloc(), 7) == Some(1));
     for wanted in 2..100u64 {
-        assert!(rt; flight.next() == wanted);
-        assert!(rt; number_of(&rt, &mut flight, rt.alloc(), wanted) == Some(wanted));
+        assert!(rt;
+            flight.next() == wanted
+                && number_of(&rt, &mut flight, rt.alloc(), wanted) == Some(wanted)
+        );
         assert!(rt; settles(&mut flight, wanted, Some(wanted)) && flight.oldest() == Some(1));
     }
     assert!(rt; stands(&flight, 1, Some(7)));
 }
 
-// A table, made by a second call if the first one's allocation failed.
-fn table(alloc: Global) -> Result<Flight, AllocError> {
-    match Flight::new(alloc, 2) {
-        Ok(flight) => Ok(flight),
-        Err(AllocError) => Flight::new(alloc, 2),
-    }
-}
-
-// A batch, made by a second call if the first one's allocation failed.
-fn batch_again(alloc: Global) -> Result<Batch, Fail> {
-    let batcher = match gathered(alloc, 7) {
-        Ok(batcher) => batcher,
-        Err(AllocError) => gathered(alloc, 7)?,
-    };
-    Ok(batcher.close().ok_or("empty")?)
-}
-
 // Writes, made by a second call if the first one's allocation failed.
-fn writes_again(alloc: Global) -> Result<Vec<Write>, Fail> {
-    let writes = match deletes(alloc, 7) {
-        Some(writes) => writes,
-        None => deletes(alloc, 7).ok_or("out of memory")?,
-    };
-    Ok(writes)
+fn writes_again(alloc: Global) -> Option<Vec<Write>> {
+    match deletes(alloc, 7) {
+        None => deletes(alloc, 7),
+        made => made,
+    }
 }
 
 // A failed allocation is reported as out of memory; once the table is made, no call allocates.
 #[test]
-fn refusals(rt: HostRuntime) -> Result<(), Fail> {
-    let mut flight = table(rt.alloc())?;
-    let batch = batch_again(rt.alloc())?;
-    let writes = writes_again(rt.alloc())?;
+fn refusals(rt: HostRuntime) {
+    let mut flight = flight_of(rt.alloc(), 2).expect(&rt, "a table");
+    let batch = batch_again(rt.alloc(), 7).expect(&rt, "a batch");
+    let writes = writes_again(rt.alloc()).expect(&rt, "writes");
     assert!(rt; enter(&mut flight, batch, writes) == Some(1) && flight.flying() == 1);
-    Ok(())
 }

@@ -1,17 +1,10 @@
 //! Each call once.
 use crate::held::desk::{
-    Desk, candidate, empty_desk, halve, key_of, land, launch, push, take, tick,
+    Desk, empty_desk, halve, key_of, land, launch, push, take, tick, version_at,
 };
 use relay_held::Spot;
 use std::alloc::Global;
 use std::process::Abort;
-
-// The versions of the first two operations that may be sent, or 0 if there is none.
-fn offered(desk: &mut Desk) -> [u64; 2] {
-    let first = candidate(desk, 0).map_or(0, |one| one.version);
-    let second = candidate(desk, 1).map_or(0, |one| one.version);
-    [first, second]
-}
 
 // What happens to an operation after it is sent.
 #[derive(Clone, Copy)]
@@ -67,19 +60,21 @@ fn first_of(rt: &impl Abort, alloc: Global, desk: &Desk, document: u64) -> First
 fn takes(rt: &impl Abort, alloc: Global, desk: &mut Desk, document: u64) -> Option<u64> {
     let _ = launch(desk, 0, 0);
     let key = key_of(alloc, document).expect(rt, "a key");
-    take(desk, &key).map(|name| name.number)
+    Some(take(desk, &key)?.number)
 }
 
 // Two operations of document 0, and one of document 1 that is due at tick 5.
 fn three(rt: &impl Abort, alloc: Global) -> Desk {
     let mut three = empty_desk(alloc);
-    assert!(rt; push(alloc, &mut three, 0, 0));
-    assert!(rt; push(alloc, &mut three, 0, 0));
-    assert!(rt; push(alloc, &mut three, 1, 5));
+    assert!(rt;
+        push(alloc, &mut three, 0, 0)
+            && push(alloc, &mut three, 0, 0)
+            && push(alloc, &mut three, 1, 5)
+    );
     three
 }
 
-// At some ticks, which may be sent, and how many looks there were by then.
+// At some ticks, the versions of the first two operations that may be sent, 0 if there is none, and how many looks there were by then.
 const OFFERED: &[(u64, [u64; 2], u64)] = &[(0, [1, 0], 1), (4, [1, 0], 2), (5, [1, 3], 4)];
 
 // Each row is so, one after another.
@@ -87,7 +82,8 @@ fn offer_each(rt: &impl Abort, desk: &mut Desk, rows: &[(u64, [u64; 2], u64)]) {
     for (clock, wanted, looks) in rows {
         ticks_to(desk, *clock);
         assert!(rt; desk.held.clock() == *clock && desk.held.due_in() == Some(0));
-        assert!(rt; offered(desk) == *wanted && desk.held.looks() == *looks);
+        let offered = [version_at(desk, 0), version_at(desk, 1)];
+        assert!(rt; offered == *wanted && desk.held.looks() == *looks);
     }
 }
 
@@ -136,9 +132,11 @@ const SENT: &[Sending] = &[
 // Each row is so, one after another.
 fn send_each(rt: &impl Abort, alloc: Global, desk: &mut Desk, rows: &[Sending]) {
     for (clock, after, version, document, first, due) in rows {
-        assert!(rt; sends(rt, desk, *clock, *after) == *version);
-        assert!(rt; first_of(rt, alloc, desk, *document) == *first);
-        assert!(rt; desk.held.due_in() == Some(*due));
+        assert!(rt;
+            sends(rt, desk, *clock, *after) == *version
+                && first_of(rt, alloc, desk, *document) == *first
+                && desk.held.due_in() == Some(*due)
+        );
     }
 }
 
@@ -165,8 +163,10 @@ fn take_each(
     rows: &[(u64, Option<u64>, (usize, usize))],
 ) {
     for (document, number, left) in rows {
-        assert!(rt; takes(rt, alloc, desk, *document) == *number);
-        assert!(rt; (desk.held.len(), desk.held.documents()) == *left);
+        assert!(rt;
+            takes(rt, alloc, desk, *document) == *number
+                && (desk.held.len(), desk.held.documents()) == *left
+        );
     }
 }
 

@@ -6,7 +6,7 @@ ghost use Rattle.relay_held.specs.Queues.{AllUnder, first_of};
 ghost use Rattle.relay_holding_tests.specs.HeldUnder.{AllUnder-prop};
 
 use relay_action::{Action, ActionKind, DocKey, OpName, Write};
-use relay_held::{Candidate, Held, Kept, NotHeld};
+use relay_held::{Held, Kept, NotHeld};
 use std::alloc::Global;
 
 /// What is held, all below the next version.
@@ -81,9 +81,12 @@ pub fn tick(desk: &mut Desk) {
     desk.held.tick();
 }
 
-/// The operation at a place of those that may be sent.
-pub fn candidate(desk: &mut Desk, at: usize) -> Option<Candidate> {
-    desk.held.candidate(at)
+/// The version of the operation at a place of those that may be sent, or 0 if there is none.
+pub fn version_at(desk: &mut Desk, at: usize) -> u64 {
+    match desk.held.candidate(at) {
+        Some(one) => one.version,
+        None => 0,
+    }
 }
 
 /// Sends the first operation that may be sent. `None` if there is none.

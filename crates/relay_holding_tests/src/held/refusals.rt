@@ -1,5 +1,5 @@
 //! What is held, with any one of its allocations refused (`make refusals`).
-use crate::held::desk::{Desk, candidate, empty_desk, push};
+use crate::held::desk::{Desk, empty_desk, push, version_at};
 use std::alloc::Global;
 
 // Whether an operation of each of these documents is held, when it is pushed again at the latest.
@@ -10,11 +10,6 @@ fn are_held(alloc: Global, desk: &mut Desk, documents: &[u64]) -> bool {
         }
     }
     true
-}
-
-// The version of the operation at a place of those that may be sent, or 0 if there is none.
-fn version_at(desk: &mut Desk, at: usize) -> u64 {
-    candidate(desk, at).map_or(0, |one| one.version)
 }
 
 // Whether two operations of one document and one of another are held, and may then be sent.

@@ -6,17 +6,61 @@ use Rattle.relay_delivery.specs.Lane.{entry_if}
 use Rattle.std.specs.Prelude.{Bool}
 use Rattle.std.specs.List.{list_all}
 use Rattle.relay_held.specs.declared.kept.Kept.{Kept}
+use Rattle.relay_held.specs.Queues.{Holding}
 use Rattle.relay_core.specs.Quiet.{is_roomy, IsQuiet}
 use Rattle.relay_core.proofs.Quiet.{quiet_taken}
 use Rattle.relay_core.specs.Walk.{report_of, items_of_kept}
 use Rattle.relay_core.specs.State.{State, bytes_of, after_op}
 use Rattle.relay_core.specs.Memory.{entries, writes_in, kept_new, AllUnder, tries_left}
-use Rattle.relay_core.specs.View.{state_of}
+use Rattle.relay_core.specs.View.{state_of, IsSound}
 use Rattle.relay_core.proofs.Taken.{entries_new, under_more, under_same, readable_more, left_more, entries_length, on_ok, with_none}
+use Rattle.relay_core.proofs.Still.{sound_roomier}
 use Rattle.relay_core.proofs.Valid.{valid_facts}
 use Rattle.relay_delivery.proofs.Halving.{halvings_few}
 use Rattle.relay_core.specs.State.{Seen}
 use Rattle.relay_core.proofs.lane.Lane.take_put.Goals as goal
+
+pub invariant_of-self : goal.invariant_of-self
+invariant_of-self c = let m = c.make_room.ensures in sound_roomier c.self.inside c.make_room.new.reports c.make_room.new.successes m.reports_len m.capacity m.successes_len m.places c.self.invariant
+
+pub invariant_of-self-in_default : goal.invariant_of-self-in_default
+invariant_of-self-in_default c = let m = c.make_room.ensures in sound_roomier c.self.inside c.make_room.new.reports c.make_room.new.successes m.reports_len m.capacity m.successes_len m.places c.self.invariant
+
+pub invariant_of-self-in-Err : goal.invariant_of-self-in-Err
+invariant_of-self-in-Err c =
+    let i = c.self.inside in
+    let m = c.make_room.ensures in
+    subst (λ (h : Holding). IsSound (record i { held = h; reports = c.make_room.new.reports; successes = c.make_room.new.successes })) (sym c.in-Err.ensures.unchanged)
+    (sound_roomier c.self.inside c.make_room.new.reports c.make_room.new.successes m.reports_len m.capacity m.successes_len m.places c.self.invariant)
+
+pub invariant_of-self-then-self : goal.invariant_of-self-then-self
+invariant_of-self-then-self c =
+    let i = c.self.inside in
+    let v = c.self.invariant in
+    let m = c.make_room.ensures in
+    let p = c.push_reserved.ensures in
+    let room = on_ok _ _ c.if-is_err.ensures.negation m.reports_room in
+    record {
+      readable = v.readable;
+      under = under_same (i.first + min i.taken i.config.deal) (i.first + min (i.taken + 1) i.config.deal) i.held.list (omega arith) v.under;
+      flight = v.flight;
+      most = v.most;
+      room = (let len = p.len in let cap = p.capacity in omega (arith, len, cap, room));
+      places = (let old = v.places in let len = m.successes_len in let more = m.places in omega (arith, old, len, more));
+      few = v.few;
+      limit = v.limit;
+      tries = v.tries;
+      senders = v.senders;
+      first = v.first;
+      versions = v.versions;
+      dealt = v.dealt;
+      counted = (let old = v.counted in let len = p.len in let before = m.reports_len in omega (arith, old, len, before));
+      done = (let old = v.done in omega (arith, old));
+      left = (let old = v.left in omega (arith, old));
+      config = v.config;
+      begins = v.begins;
+      quiet = v.quiet;
+    }
 
 pub invariant_of-self-in-Ok-push : goal.invariant_of-self-in-Ok-push
 invariant_of-self-in-Ok-push c =
