@@ -2,7 +2,7 @@
 even; otherwise it takes it from a file. `refusals.py` calls this.
 
 It ends within a minute of the end of its standard input, or by itself, out of memory; never by a signal. Out of memory is also a
-thread that does not start, and a seed for ids that is not had. Each answer that begins is whole, and what it says was written the index
+thread that does not start, and a seed for ids that is not had. One more client leaves before its answer, and sends the same again. Each answer that begins is whole, and what it says was written the index
 applied, with that version and that source. The index has no write twice, and the writes of a document in the order of their
 client.
 """
@@ -10,6 +10,7 @@ import http.client
 import json
 import os
 import re
+import socket
 import subprocess
 import tempfile
 import threading
@@ -23,6 +24,8 @@ REFUSED = b"REFUSED\n"
 # A hundred values: first 1, 2, 3, .., then in growing steps, up to more than the number of allocations of these requests.
 EVERY = sorted({*range(1, 41), *(int(40 * 1.09**step) for step in range(1, 61))})
 CLIENTS, TURNS, SECONDS = 3, 6, 60
+# For how many seconds the index takes a request whose client leaves: long enough that its answer is kept.
+SLOW = 0.13
 DONE = re.compile(rb"applied (\d+) already (\d+) reported (\d+)\n")
 # What an answer may have as its status if memory ran out: that of the service, and those of the server below it.
 STATUSES = (200, 201, 500, 503)
@@ -95,6 +98,22 @@ class Client:
         self.ask("GET", "/")
 
 
+class Leaver(Client):
+    """A client that leaves before it is answered, and then sends the same again."""
+
+    def work(self):
+        identity, source = "left", '{"left":true}'
+        head = "PUT /books/_doc/%s HTTP/1.1\r\nhost: a\r\ncontent-length: %d\r\n\r\n" % (identity, len(source))
+        try:
+            with socket.create_connection(("127.0.0.1", self.port), timeout=SECONDS) as stream:
+                stream.sendall((head + source).encode())
+        except OSError:
+            return
+        # If memory runs out, it may be put again.
+        self.put.append((identity, source))
+        self.one(identity, source)
+
+
 def begun(process, path):
     """Waits until the server says where it listens, and returns whether it does."""
     until = time.monotonic() + SECONDS
@@ -127,16 +146,17 @@ def wrong_end(status, out, met, clients):
     if status is None:
         return "has not ended after %d s" % SECONDS
     if status == 0 and DONE.fullmatch(out):
-        whole = sum(it.answers for it in clients) == len(clients) * (2 * TURNS + 1)
+        whole = sum(it.answers for it in clients) == CLIENTS * (2 * TURNS + 1) + 1
         return None if met or whole else "left requests without answers, and no allocation was refused"
     return None if met and status in (3, 4) else "ended with %d: %s" % (status, out[-300:])
 
 
 def serve_one(every, environment):
     """Lets the clients write through one server. Returns its status, how many answers there were, and what is wrong."""
-    server, port = CounterServer(), free_port()
+    slow = [0.0]
+    server, port = CounterServer(delay=lambda: slow[0]), free_port()
     args = [RELAY, "serve", "--listen", "127.0.0.1:%d" % port, "--to", "127.0.0.1:%d" % server.port, "--workers", "4", "--lanes", "2", "--count", "7", "--attempts", "32", "--answer-within", "30s"]
-    clients = [Client(number, port) for number in range(CLIENTS)]
+    clients, leaver = [Client(number, port) for number in range(CLIENTS)], Leaver(CLIENTS, port)
     with tempfile.TemporaryDirectory() as folder, open(os.path.join(folder, "said"), "w+b") as said:
         args += ["--epoch-file", os.path.join(folder, "epoch")] if every % 2 else ["--epoch-from", "relay/epoch"]
         process = subprocess.Popen(args, env=environment, stdin=subprocess.PIPE, stdout=subprocess.PIPE, stderr=said)
@@ -146,6 +166,9 @@ def serve_one(every, environment):
                 thread.start()
             for thread in threads:
                 thread.join()
+            slow[0] = SLOW
+            leaver.work()
+        clients.append(leaver)
         process.stdin.close()
         try:
             status = process.wait(timeout=SECONDS)

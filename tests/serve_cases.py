@@ -469,6 +469,7 @@ def epochs():
         ("a number of workers", ["--epoch", "1", "--workers", "257"], b"--workers"),
         ("a counter", ["--epoch-from", "x"], b"--epoch-from"),
         ("a duration", ["--epoch", "1", "--answer-within", "2h"], b"--answer-within"),
+        ("how long to keep answers", ["--epoch", "1", "--remember", "0"], b"--remember"),
     ):
         fails("the command line: %s" % name, [*to, *args], said, 1)
 
@@ -663,4 +664,111 @@ def watched():
     server.close()
 
 
-GROUPS = (documents, bulk, refusals_by_item, refusals_of_requests, faces, framing, broken, faults, killed, epochs, terms, late, turns, stops, down, watched)
+def left(serve, method, target, body):
+    """Sends a request, and leaves before it is answered."""
+    head = "%s %s HTTP/1.1\r\nhost: relay\r\ncontent-type: application/json\r\ncontent-length: %d\r\n\r\n" % (method, target, len(body))
+    with socket.create_connection(("127.0.0.1", serve.port), timeout=30) as stream:
+        stream.sendall(head.encode() + body)
+
+
+def written(server, number):
+    """The sources of a document that were applied, one for each version."""
+    return [it[2] for it in dict.fromkeys(server.index.applied.get(("books", number), []))]
+
+
+def ended(server, number, count):
+    """Waits until so many versions of a document were applied, and their requests have been answered."""
+    wait_until(lambda: len(written(server, number)) >= count)
+    time.sleep(0.3)
+
+
+def repeats():
+    """Clients that leave before their answer, and send the same again."""
+    slow = [0.5]
+    server = Server(delay=lambda: slow[0])
+    serve = Serve(server, "--workers", "4", "--lanes", "1", "--remember", "4s")
+    one, two = b'{"n":1}', b'{"n":2}'
+
+    left(serve, "PUT", "/books/_doc/1", one)
+    time.sleep(0.25)
+    status, _, text = serve.whole("PUT", "/books/_doc/1", one)
+    check("one that comes while the first still runs joins it", status == 201 and json.loads(text)["result"] == "created" and len(written(server, "1")) == 1, (status, text))
+    check("and once more", serve.whole("PUT", "/books/_doc/1", one)[::2] == (status, text))
+    check("as it was put once", len(written(server, "1")) == 1, written(server, "1"))
+    check("another body is put", serve.ask("PUT", "/books/_doc/1", two)[0] == 200 and written(server, "1") == ['{"n":1}', '{"n":2}'], written(server, "1"))
+    check("and so is the first one again, since it would be an untruth now", serve.ask("PUT", "/books/_doc/1", one)[0] == 200 and written(server, "1") == ['{"n":1}', '{"n":2}', '{"n":1}'], written(server, "1"))
+
+    whole = body_of([("2", '{"n":1}'), ("3", '{"n":1}')])
+    left(serve, "POST", "/books/_bulk", whole)
+    ended(server, "3", 1)
+    for query in ("", "?timeout=1m"):
+        status, value = serve.ask("POST", "/books/_bulk" + query, whole)
+        check("a whole body" + query, status == 200 and not value["errors"] and len(written(server, "2")) == (2 if query else 1), (value, written(server, "2")))
+
+    part = body_of([("4", '{"n":1}')]) + b'{"update":{"_index":"books","_id":"5"}}\n{"doc":{}}\n'
+    left(serve, "POST", "/_bulk", part)
+    ended(server, "4", 1)
+    status, value = serve.ask("POST", "/_bulk", part)
+    check("one with an item that is an error is put again", status == 200 and value["errors"] and len(written(server, "4")) == 2, (value, written(server, "4")))
+
+    ids, lock = [], threading.Lock()
+
+    def add():
+        _, value = serve.ask("POST", "/books/_doc", b'{"line":"same"}')
+        with lock:
+            ids.append(value["_id"])
+
+    adding = [threading.Thread(target=add) for _ in range(2)]
+    for one_more in adding:
+        one_more.start()
+        time.sleep(0.25)
+    for one_more in adding:
+        one_more.join()
+    check("two clients that stay make two documents", len(set(ids)) == 2, ids)
+
+    left(serve, "PUT", "/books/_doc/6", one)
+    ended(server, "6", 1)
+    time.sleep(4.5)
+    check("after the time it is put again", serve.ask("PUT", "/books/_doc/6", one)[0] == 200 and len(written(server, "6")) == 2, written(server, "6"))
+    check("the stop after repeats", serve.stop()[0] == 0)
+
+    serve = Serve(server, "--workers", "4", "--lanes", "1", "--remember", "never", "--epoch", "1")
+    left(serve, "PUT", "/books/_doc/7", one)
+    ended(server, "7", 1)
+    check("nothing is kept if that is said", serve.ask("PUT", "/books/_doc/7", one)[0] == 200 and len(written(server, "7")) == 2, written(server, "7"))
+    check("the stop without", serve.stop()[0] == 0)
+    server.close()
+
+
+def filled():
+    """Once answers that are kept leave little room for more, the next term begins, and nothing is kept in it."""
+    server = Server(delay=lambda: 0.3)
+    # An eighth of this is for what is kept.
+    serve = Serve(server, "--workers", "4", "--lanes", "1", "--epoch", "1", "--max-open-bytes", "1048576")
+    long, other = b'{"text":"%s"}' % (b"x" * 70_000), b"{}"
+    left(serve, "PUT", "/books/_doc/1", long)
+    ended(server, "1", 1)
+    check("what is kept is used", serve.ask("PUT", "/books/_doc/1", long)[0] == 201 and len(written(server, "1")) == 1, len(written(server, "1")))
+    check("a request after that ends the term", serve.ask("PUT", "/books/_doc/2", other)[0] == 201)
+    wait_until(lambda: metrics_of(serve)["relay_terms_total"] == 2)
+    check("the next term has begun", metrics_of(serve)["relay_terms_total"] == 2, metrics_of(serve))
+    check("and does not know it", serve.ask("PUT", "/books/_doc/1", long)[0] == 200 and len(written(server, "1")) == 2, len(written(server, "1")))
+    check("the stop after two terms", serve.stop()[0] == 0)
+    server.close()
+
+
+def late_repeats():
+    """An answer that says that a write was late is not kept."""
+    slow = [1.0]
+    server = Server(delay=lambda: slow[0])
+    serve = Serve(server, "--workers", "4", "--lanes", "1", "--answer-within", "300ms")
+    left(serve, "PUT", "/books/_doc/1", b"{}")
+    wait_until(lambda: written(server, "1"))
+    slow[0] = 0.0
+    wait_until(lambda: serve.ask("PUT", "/books/_doc/2", b"{}")[0] in (200, 201))
+    check("what was late is put again", serve.ask("PUT", "/books/_doc/1", b"{}")[0] == 200 and len(written(server, "1")) == 2, written(server, "1"))
+    check("the stop after a late one", serve.stop()[0] == 0)
+    server.close()
+
+
+GROUPS = (documents, bulk, refusals_by_item, refusals_of_requests, faces, framing, broken, faults, killed, epochs, terms, late, turns, stops, down, watched, repeats, filled, late_repeats)

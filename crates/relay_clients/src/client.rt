@@ -8,11 +8,12 @@ ghost use Rattle.relay_clients.specs.declared.client.Phase.TheVariants.{Serving}
 
 use crate::entrance::Origin;
 use crate::farewell::Farewell;
+use crate::keeping::KeepsAnswers;
 use crate::places::Place;
 use crate::refusing::with_body;
 use crate::room::{Intake, PIECE, Share};
 use crate::signals::Signals;
-use http_server::{Config, Connection, Reason, Service, State};
+use http_server::{Config, Connection, Reason, State};
 use http1::Limits;
 use mio::Interest;
 use relay_front::refusal::refusal_message;
@@ -368,24 +369,56 @@ impl Client {
 
     // Sends what is pending, or else reads once, and answers what was read. Returns how many bytes
     // moved.
-    fn exchange<S: Service>(&mut self, service: &mut S) -> io::Result<usize>
+    fn exchange<S: KeepsAnswers>(&mut self, service: &mut S) -> io::Result<usize>
         ensures { Calls S.answers service.old service.new (history self.old).calls
             (history self.new).calls }
     {
         if self.connection.wants_write() {
-            let count = send(&mut self.connection, &mut self.stream)?;
-            self.connection.advance(service);
-            return Ok(count);
+            return self.send_on(service);
         }
         let count = self.read()?;
         self.connection.advance(service);
         self.note_read();
+        self.look(service);
         Ok(count)
+    }
+
+    // Sends what is pending, and answers what was read behind it. Returns how many bytes went.
+    fn send_on<S: KeepsAnswers>(&mut self, service: &mut S) -> io::Result<usize>
+        ensures { Calls S.answers service.old service.new (history self.old).calls
+            (history self.new).calls }
+    {
+        match send(&mut self.connection, &mut self.stream) {
+            Ok(count) => {
+                self.connection.advance(service);
+                self.look(service);
+                Ok(count)
+            }
+            Err(error) => {
+                if !is_timeout(&error) && service.may_keep() {
+                    service.keep();
+                }
+                Err(error)
+            }
+        }
+    }
+
+    // Tells the service that its last answer was sent, or that its client has left before, if it may
+    // keep that.
+    fn look<S: KeepsAnswers>(&self, service: &S) {
+        if !service.may_keep() {
+            return;
+        }
+        if !self.connection.wants_write() {
+            service.let_go();
+        } else if self.has_gone() {
+            service.keep();
+        }
     }
 
     // Does a step. Returns what it was: no bytes moved if the client took none or sent none for a
     // slice. `Err`: the socket failed.
-    fn step<S: Service>(&mut self, service: &mut S) -> io::Result<Step>
+    fn step<S: KeepsAnswers>(&mut self, service: &mut S) -> io::Result<Step>
         ensures { Calls S.answers service.old service.new (history self.old).calls
             (history self.new).calls }
     {
@@ -594,16 +627,28 @@ impl Client {
         has_tried && has_turned && !self.is_done()
     }
 
+    // What its client has sent by now: how many bytes are there, of which one is looked at.
+    fn peek(&self) -> io::Result<usize> {
+        let mut byte = [0];
+        self.stream.set_nonblocking(true)?;
+        let peeked = self.stream.peek(&mut byte);
+        self.stream.set_nonblocking(false)?;
+        peeked
+    }
+
     // Whether its client has sent something by now, or has ended: it is not waited for.
     fn has_come(&self) -> bool {
-        let mut byte = [0];
-        if self.stream.set_nonblocking(true).is_err() {
-            return true;
+        match self.peek() {
+            Ok(_) => true,
+            Err(error) => !is_timeout(&error),
         }
-        let peeked = self.stream.peek(&mut byte);
-        match (peeked, self.stream.set_nonblocking(false)) {
-            (Err(error), Ok(())) => !is_timeout(&error),
-            _ => true,
+    }
+
+    // Whether its client has ended, and sends nothing more.
+    fn has_gone(&self) -> bool {
+        match self.peek() {
+            Ok(count) => count == 0,
+            Err(error) => !is_timeout(&error),
         }
     }
 
@@ -625,7 +670,7 @@ impl Client {
     }
 
     // Does a step. Returns what follows.
-    fn go_on<R: Clock, S: Service, G: Signals>(
+    fn go_on<R: Clock, S: KeepsAnswers, G: Signals>(
         &mut self,
         rt: &R,
         service: &mut S,
@@ -656,12 +701,13 @@ impl Client {
     /// nothing, or taken nothing, for 2 ms, or for 50 ms after an answer if nobody waits; after 10 ms of
     /// a request if others wait, or once more a few bytes of it; and once its last answer was sent. Once
     /// the server ends, it goes on only for the rest of a request and its answer, and for at most 10 s
-    /// besides the time that the service takes.
+    /// besides the time that the service takes. The service is told if the client has left before an
+    /// answer that it may keep was sent.
     ///
     /// What it has called the service for, and what the service answered, is what the connection's
     /// history shows: the calls of this turn follow those of earlier ones, and lead from the
     /// service's state before to its state after.
-    pub fn serve<R: Wait + Clock, S: Service, G: Signals>(
+    pub fn serve<R: Wait + Clock, S: KeepsAnswers, G: Signals>(
         &mut self,
         rt: &R,
         service: &mut S,

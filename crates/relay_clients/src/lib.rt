@@ -8,6 +8,7 @@
 pub mod client;
 pub mod entrance;
 mod farewell;
+mod keeping;
 pub mod parking;
 pub mod places;
 pub mod poller;
@@ -17,6 +18,7 @@ pub mod signals;
 
 pub use client::{Client, Turn};
 pub use entrance::{Entrance, Origin};
+pub use keeping::KeepsAnswers;
 pub use parking::Parking;
 pub use places::{CONNECTIONS, Place, Places};
 pub use poller::{Poller, PollerParts};

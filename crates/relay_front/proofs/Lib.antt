@@ -9,3 +9,4 @@ pub mod Reading
 pub mod Keys
 pub mod Decoding
 pub mod Settling
+pub mod Putting

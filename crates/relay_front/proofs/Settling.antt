@@ -2,7 +2,7 @@
 use Rattle.std.proofs.Common.{◌≡◌, ◌⊎◌, ℕ, Bool, true, false, List, [], ◌∷◌, Option, None, Some, refl, inl, inr}
 use Rattle.http.specs.declared.request.Request.{Request}
 use Rattle.http.specs.Request.{head_of, body_of}
-use Rattle.http_uri.specs.Uri.{uri_path, uri_query}
+use Rattle.http_uri.specs.Uri.{uri_query}
 use Rattle.http_server.specs.declared.response.Response.{Response}
 use Rattle.relay_ndjson.specs.Metadata.{bytes_given}
 use Rattle.relay_action.specs.declared.action.Action.{Action}
@@ -15,7 +15,7 @@ use Rattle.relay_front.specs.declared.operation.AskedKind.TheVariants as kind
 use Rattle.relay_front.specs.declared.service.Front.{Front}
 use Rattle.relay_front.specs.Faces.{is_coded}
 use Rattle.relay_front.specs.Operations.{Write}
-use Rattle.relay_front.specs.Routes.{Target, Bulk, Put, Add, Delete, asked_by}
+use Rattle.relay_front.specs.Routes.{Target, Bulk, Put, Add, Delete}
 use Rattle.relay_front.specs.Service.{Settles, Reply, Answers, RepliesToRequest, just, nothing, RepliesBy, RepliesByCoding, RepliesTo, RepliesToAdd, RepliesToBulk, RepliesToBulkAt, RepliesToDelete, RepliesToDocument, RepliesToPut, RepliesToWrite, RepliesToWriter, does_write, target_asked}
 
 -- What was settled where this holds of what settles: nothing, and it holds where nothing is; or just these writes, and it holds

@@ -1,6 +1,6 @@
 -- What the relay says of itself to clients that ask before they write: fixed texts in OpenSearch's form (info, cluster health,
 -- compact health, nodes info), and the license of Elasticsearch's.
-use Rattle.std.specs.Prelude.{◌≡◌, ◌⊎◌, ℕ, Bool, false, not, bytes_eq, List, [], ◌++◌, codes, Option, None, Some}
+use Rattle.std.specs.Prelude.{◌≡◌, ◌⊎◌, ℕ, Bool, not, bytes_eq, List, [], ◌++◌, codes, Option, None, Some}
 use Rattle.std.specs.List.{list_any}
 use Rattle.json.specs.Print.{quoted}
 use Rattle.http_header.specs.FieldValue.{FieldValue, IsVisibleAscii}

@@ -12,3 +12,4 @@ pub mod Asides
 pub mod Faces
 pub mod Fields
 pub mod Service
+pub mod Again

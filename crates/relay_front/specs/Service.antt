@@ -31,7 +31,7 @@ use Rattle.relay_front.specs.Operations.{Write, HasRead, BreaksBody, key_by, sou
 use Rattle.relay_front.specs.Queries.{meaning_of}
 use Rattle.relay_front.specs.Reasons.{reason_of}
 use Rattle.relay_front.specs.Routes.{Target, Info, ClusterHealth, CatHealth, Nodes, License, Health, Metrics, Stop, IndexExists, Bulk, Put, Add, Delete, Method, asked_by}
-use Rattle.relay_front.specs.Said.{said_by}
+use Rattle.relay_front.specs.Said.{Words, said_by}
 use Rattle.relay_front.specs.Texts.{bulk_body, document_body, document_status, first_end, illegal_argument, refusal_body}
 
 -- how a settler has writes end: from the first state these writes ended so, which leaves the second state
@@ -269,3 +269,15 @@ abbrev pub reply_of : Result Answer Short → Reply
 reply_of (Ok a) = Says a.status a.text.items
 reply_of (Err short.Unput) = NoMemory
 reply_of (Err short.Put) = NoAnswer
+
+-- what the write of a document says, unless memory ran out for it
+abbrev pub SaysOf : DocKey → Words → Reply → Type 0
+SaysOf key words reply = (reply ≡ Says (document_status words) (document_body key words)) ⊎ (reply ≡ NoAnswer)
+
+-- the source is refused, or it is written under this key; or memory ran out before it was put
+abbrev pub RepliesToSource : {S : Type 0} → Settles S → Bool → DocKey → List ℕ → S → Reply → S → Type 0
+RepliesToSource settles made key content old reply new =
+    ((new ≡ old) × (f : ItemFault) × (source_reason (on_one_line content) ≡ Some f) × Refuses (reason_of f) reply)
+    ⊎ ((stored : Action) × (source_reason (on_one_line content) ≡ None) × IsIndexOf (on_one_line content) stored
+    × RepliesToWrite settles kind.Index made key stored old reply new)
+    ⊎ ((new ≡ old) × (reply ≡ NoMemory))

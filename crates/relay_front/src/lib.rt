@@ -6,6 +6,7 @@
 //! says of each how it ended, `items` writes that down, and `service` puts these together.
 #![tactic(auto)]
 
+pub mod again;
 pub mod aside;
 mod document;
 pub mod ending;
@@ -24,6 +25,7 @@ pub mod settle;
 pub mod targets;
 mod text;
 
+pub use again::{Asked, says_applied};
 pub use ending::End;
 pub use face::Face;
 pub use operation::{AskedKind, Item, ItemFault};

@@ -4,6 +4,8 @@ ghost use Rattle.relay_ndjson.specs.Metadata.{bytes_given};
 ghost use Rattle.relay_front.specs.Reasons.{reason_of};
 ghost use Rattle.relay_front.specs.Service.{IsReply, Refuses, RepliesToBulk, RepliesToDelete};
 ghost use Rattle.relay_front.specs.Service.{RepliesToPut, RepliesToWrite, fault_text, reply_of};
+ghost use Rattle.relay_front.specs.Service.{RepliesToSource, SaysOf};
+ghost use Rattle.relay_front.specs.Said.{words_of};
 ghost use Rattle.relay_front.specs.Texts.{refusal_body};
 
 use crate::aside::{aside_text, have_reports, operation_text};
@@ -13,7 +15,7 @@ use crate::items::{bulk_text, document_text};
 use crate::lines::{BodyFault, Unread, action_of, key_within, read_operations};
 use crate::operation::{AskedKind, Item, ItemFault};
 use crate::refusal::{ILLEGAL_ARGUMENT, refusal_text};
-use crate::said::{fault_reason, said_of};
+use crate::said::{Said, fault_reason, said_of};
 use crate::settle::{Ids, Settle};
 use relay_action::{Action, DocKey};
 use std::alloc::{AllocError, Global};
@@ -156,6 +158,16 @@ fn one_write(
     Ok(writes)
 }
 
+// The answer to a request for one document, whose write says this.
+fn said_answer(alloc: Global, key: &DocKey, said: Said<'_>) -> Result<Answer, Short>
+    ensures { SaysOf key.now (words_of said.entry) (reply_of result) }
+{
+    match document_text(alloc, key, said) {
+        Ok((status, text)) => Ok(Answer { status, text }),
+        Err(_) => Err(Short::Put),
+    }
+}
+
 // What is replied to a request for one document, once it is known what to write.
 fn reply_to_write<S: Settle>(
     alloc: Global,
@@ -174,9 +186,27 @@ fn reply_to_write<S: Settle>(
     set_one_aside(alloc, key, source, &settled.ends, relay);
     let unput = End::Unput;
     let end = settled.ends.first().unwrap_or(&unput);
-    match document_text(alloc, key, said_of(kind, made, end)) {
-        Ok((status, text)) => Ok(Answer { status, text }),
-        Err(_) => Err(Short::Put),
+    said_answer(alloc, key, said_of(kind, made, end))
+}
+
+// What is replied to a request that stores a document, once it is known which.
+fn reply_to_source<S: Settle>(
+    alloc: Global,
+    made: bool,
+    key: &DocKey,
+    body: &[u8],
+    relay: &mut S,
+) -> Result<Answer, Short>
+    ensures { RepliesToSource S.settles made key.now body.now relay.old (reply_of result)
+        relay.new }
+{
+    let source = on_one_line(alloc, body)?;
+    match action_of(alloc, &source)? {
+        Ok(action) => {
+            let kept = Some(source.as_slice());
+            reply_to_write(alloc, AskedKind::Index, made, key, action, kept, relay)
+        }
+        Err(fault) => refuse_item(alloc, &fault),
     }
 }
 
@@ -192,16 +222,8 @@ pub fn reply_to_put<S: Settle>(
     ensures { RepliesToPut S.settles made index.now id.now body.now relay.old (reply_of result)
         relay.new }
 {
-    let key = match key_within(alloc, index, id, made)? {
-        Ok((key, _)) => key,
-        Err(fault) => return refuse_item(alloc, &fault),
-    };
-    let source = on_one_line(alloc, body)?;
-    match action_of(alloc, &source)? {
-        Ok(action) => {
-            let kept = Some(source.as_slice());
-            reply_to_write(alloc, AskedKind::Index, made, &key, action, kept, relay)
-        }
+    match key_within(alloc, index, id, made)? {
+        Ok((key, _)) => reply_to_source(alloc, made, &key, body, relay),
         Err(fault) => refuse_item(alloc, &fault),
     }
 }

@@ -68,7 +68,7 @@ const STOPPING: &str = "{\"status\":\"stopping\"}";
 const NOT_HERE: &str = "the relay is stopped only by way of a loopback address that it listens at";
 
 // Whether a route writes, so that its query and the coding of its body matter.
-fn does_write(route: Route<'_>) -> bool
+pub(crate) fn does_write(route: Route<'_>) -> bool
     ensures { result ≡ does_write (target_of route.entry) }
 {
     matches!(
@@ -85,7 +85,7 @@ fn is_coding(coding: &HeaderValue) -> bool
 }
 
 // Whether the body has a coding.
-fn is_coded(request: &Request<Bytes>) -> bool
+pub(crate) fn is_coded(request: &Request<Bytes>) -> bool
     ensures { result ≡ is_coded (head_of request.now).headers }
 {
     'codings: for coding in request.headers().get_all(header::CONTENT_ENCODING) {
@@ -235,7 +235,11 @@ impl<'a, S: Settle, I: Ids> Front<'a, S, I> {
     }
 
     // Adds the fields of the answer to a request with this route.
-    fn add_fields(&self, route: Route<'_>, response: &mut Response) -> Result<(), AllocError>
+    pub(crate) fn add_fields(
+        &self,
+        route: Route<'_>,
+        response: &mut Response,
+    ) -> Result<(), AllocError>
         requires { fields_of response.old ≡ [] }
         ensures fields { OnOk result (HasFields self.now.face (target_of route.entry) response.new) }
     {

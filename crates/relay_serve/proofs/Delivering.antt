@@ -53,6 +53,7 @@ delivers describes fits carries out face index epoch c k queues rows wires cs la
       visits = put.visits;
       answers = put.answers;
       answered = put.answered;
+      remembered = put.remembered;
       settled = put.settled;
       rows = rows;
       wires = wires;

@@ -9,3 +9,5 @@ pub mod Delivering
 pub mod Turning
 pub mod Valid
 pub mod Crossing
+pub mod Repeats
+pub mod Given

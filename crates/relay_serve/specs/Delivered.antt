@@ -14,11 +14,12 @@ use Rattle.relay_telling.specs.declared.ending.Ending.{Ending}
 use Rattle.relay_telling.specs.declared.lane_tells.LaneTells.{LaneTells}
 use Rattle.relay_front.specs.declared.face.Face.{Face}
 use Rattle.relay_serve.specs.Acknowledged.{AllAcknowledged}
-use Rattle.relay_serve.specs.Answering.{Answering, Visit, WorkersAnswered, requests_of}
+use Rattle.relay_serve.specs.Answering.{Answering, AreRemembered, Visit, WorkersAnswered, requests_of}
 use Rattle.relay_serve.specs.Serving.{Request, WorkersSettled, HaveSamePuts, ops_of}
 
 -- Each worker served some connections and answered their calls, one after another: each response is the one to its request where
--- just the writes that were settled for it are, and end so. It took from its channel what was taken for them, which is what these
+-- just the writes that were settled for it are, and end so; or it was answered, with the same status and the same text, as a call of
+-- one of the workers that asked for the same, byte for byte, and for which writes were settled. It took from its channel what was taken for them, which is what these
 -- ends show; and each lane delivered exactly what was put for them on its documents: lane by lane, and all lanes together. Whatever
 -- requests the workers settled by which they put and took just this: how their writes ended is what the lanes told of those very
 -- operations, and is true.
@@ -28,6 +29,7 @@ pub record IsDelivered {W : Type 0} (describes : W → Bool) (fits : W → Outsi
   pub visits : ℕ → List Visit
   pub answers : ℕ → List Answering
   pub answered : WorkersAnswered face index queues c.epoch visits answers 0 receipts
+  pub remembered : AreRemembered c.producers answers
   pub settled : WorkersSettled queues c.epoch (λ p. requests_of (answers p)) 0 receipts
   pub rows : List (List ClosedEnd)
   pub wires : List W

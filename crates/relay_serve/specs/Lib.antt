@@ -3,6 +3,8 @@ pub mod Settling
 pub mod Batches
 pub mod Putting
 pub mod Serving
+pub mod Remembering
+pub mod Known
 pub mod Answering
 pub mod Meeting
 pub mod Acknowledged

@@ -5,6 +5,7 @@ use Rattle.relay_producer.specs.States.{ProducerState, ClosedProducerState}
 use Rattle.relay_receipts.specs.Ends.{Channel, TakeEnd}
 use Rattle.relay_receipts.specs.Windows.{WindowState}
 use Rattle.relay_telling.specs.declared.ending.Ending.{Ending}
+use Rattle.relay_serve.specs.declared.entry.Spoken.{Spoken}
 use Rattle.relay_serve.specs.declared.worker.Settings.{Settings}
 use Rattle.relay_serve.specs.declared.workers.WorkerPromise.{WorkerPromise}
 use Rattle.relay_serve.specs.Answering.{Given, given_by, index_in}
@@ -32,5 +33,5 @@ abbrev pub given_as : Settings → WindowState Ending → Given
 given_as settings producer = given_by settings.face (index_in settings.index) producer
 
 -- what a worker's thread was given
-abbrev pub given_to : PromisedHandle (ClosedProducerState × TakeEnd Ending) WorkerPromise → Given
+abbrev pub given_to : PromisedHandle (ClosedProducerState × TakeEnd Ending × Spoken) WorkerPromise → Given
 given_to h = given_as h.promise.settings.value h.promise.producer.value

@@ -1,6 +1,7 @@
 //! What the threads of a server share.
 use crate::clerk::say_refusal;
 use crate::counts::Counts;
+use crate::memory::Memory;
 use crate::options::{ServeLog, ServeOptions};
 use relay_clients::{Places, Room, Signals};
 use relay_core::config::LANE_LIMIT;
@@ -35,6 +36,8 @@ pub struct Board {
     pub(crate) places: Places,
     /// The bytes of requests that are open.
     pub(crate) room: Room,
+    /// The answers whose clients had left.
+    pub(crate) memory: Memory,
     // How many operations each worker has put to each lane that have not ended: a row of a number for
     // each lane there may be, so that no two workers write to one line of a processor's cache.
     open: Vec<AtomicU64>,
@@ -107,6 +110,13 @@ impl Board {
         let counts = Counts::new(alloc)?;
         let places = Places::new(alloc)?;
         let room = Room::new(alloc, options.room)?;
+        let memory = Memory::new(
+            host,
+            alloc,
+            options.remember,
+            options.config.producers,
+            options.room,
+        )?;
         let open = zeros(alloc, options.config.producers.saturating_mul(ROW as u32))?;
         let since = zeros(alloc, options.config.producers)?;
         let index = relay_progress::Counts::shared(alloc)?;
@@ -124,6 +134,7 @@ impl Board {
                 served: AtomicU64::new(0),
                 places,
                 room,
+                memory,
                 open,
                 lanes: options.config.lanes as usize,
                 start: Instant::now(host).ok(),
@@ -156,15 +167,16 @@ impl Board {
         self.turning.store(0, Ordering::SeqCst);
     }
 
-    /// Has the term end if it is due: so many of its operations have ended, or may be reported. The
-    /// last term goes on while connections are open.
+    /// Has the term end if it is due: so many of its operations have ended, or may be reported, or there
+    /// is little room for more answers to keep. The last term goes on while connections are open.
     pub(crate) fn turn_if_due(&self) {
         let ends = self.counts.ends();
         let ended = ends.all().saturating_sub(self.ended.load(Ordering::SeqCst));
         let reported = ends
             .reports()
             .saturating_sub(self.reported.load(Ordering::SeqCst));
-        let is_due = ended >= self.longest || reported >= REPORTS;
+        let is_full = reported >= REPORTS || self.memory.is_filled();
+        let is_due = ended >= self.longest || is_full;
         if is_due && !self.is_ending() {
             self.turning.store(1, Ordering::SeqCst);
         }
@@ -328,7 +340,7 @@ impl Board {
 }
 
 // So many numbers, which are 0.
-fn zeros(alloc: Global, count: u32) -> Result<Vec<AtomicU64>, AllocError> {
+pub(crate) fn zeros(alloc: Global, count: u32) -> Result<Vec<AtomicU64>, AllocError> {
     let mut numbers = Vec::new(alloc);
     for _ in 0..count {
         numbers.push(AtomicU64::new(0))?;

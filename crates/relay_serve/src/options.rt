@@ -79,6 +79,9 @@ pub struct ServeOptions {
     pub longest: u64,
     /// How many bytes of requests may be open: read and not yet answered, beyond the first 16,384 of each.
     pub room: u64,
+    /// For how many milliseconds an answer is kept whose client has left before it was sent. `None`: none
+    /// is.
+    pub remember: Option<u64>,
     /// The file to which operations that are reported are added, if they are.
     pub report: Option<String>,
     /// What is said on standard error while it works.

@@ -5,6 +5,7 @@ ghost use Rattle.relay_common.specs.Identities.{identity_of, identity_of_closed}
 ghost use Rattle.relay_serve.specs.Settling.{Settles};
 
 use crate::clerk::Clerk;
+use crate::marks::Marks;
 use crate::metrics::metrics_text;
 use crate::settler::Settler;
 use bytes::Bytes;
@@ -28,6 +29,8 @@ pub(crate) struct Producing<'a, R: Wait + Clock> {
     pub(crate) rt: &'a R,
     pub(crate) settler: Settler,
     pub(crate) clerk: Clerk,
+    /// Of the request whose writes were settled last.
+    pub(crate) marks: Marks,
 }
 
 impl<'a, R: Wait + Clock> Settle for Producing<'a, R> {
@@ -35,7 +38,10 @@ impl<'a, R: Wait + Clock> Settle for Producing<'a, R> {
         Settles old.settler.producer writes ends new.settler.producer };
 
     fn settle(&mut self, writes: Vec<(DocKey, Action)>) -> Result<Settled, AllocError> {
+        let marks = self.settler.tally.shared.memory.mark(writes.as_slice())?;
         let settled = self.settler.settle(self.rt, writes)?;
+        self.settler.tally.shared.memory.look_after(&marks);
+        self.marks = marks;
         self.settler.tally.shared.counts.add(&settled);
         self.settler.tally.shared.turn_if_due();
         Ok(settled)

@@ -65,6 +65,10 @@ fn say_stopped<E: ByteOut>(stopped: Stopped, err: &mut E) -> Exit {
             say_line(err, "a lane could not tell a worker");
             Exit::Device
         }
+        Stopped::Unknown => {
+            say_line(err, "an answer was repeated that was not given");
+            Exit::Device
+        }
         Stopped::Finish(fault) => match fault.kind {
             FinishFaultKind::LaneMemory | FinishFaultKind::Memory => {
                 say_line(err, "a lane ran out of memory");

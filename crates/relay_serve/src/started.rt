@@ -12,6 +12,7 @@ ghost use Rattle.relay_serve.specs.Workers.{channel_in, producer_in, receipts_in
 use crate::board::Shared;
 use crate::meeting::meet_all;
 use crate::options::ServeOptions;
+use crate::recalling::recall_all;
 use crate::stopped::Stopped;
 use crate::wiring::{TcpWire, config_of, make_paces, make_wires, window_of};
 use crate::workers::{Connections, pair_up, run_workers};
@@ -72,7 +73,8 @@ where
 ///
 /// If the lanes have finished, there are calls of clients for each worker that it has answered, one
 /// after another: the calls of the connections that it served. Each response is the one to its
-/// request for the ends of the writes that were settled for it. Each lane took exactly those of these
+/// request for the ends of the writes that were settled for it; or it is repeated from the answer to
+/// another call, of which it is said so, and which asked for the same. Each lane took exactly those of these
 /// writes on its documents that were put, and delivered them as `Relay::finish` says, each lane and
 /// all lanes together. It returns what the workers took from their channels. Whatever requests they
 /// settled by which they put and took just that: an end of a write that says how it ended says what
@@ -95,7 +97,7 @@ where
         options.now.face (index_in options.now.index) (config_in epoch options.now.config) r.1.items r.0.lanes.items) }
 {
     let (relay, producers, control) = start(rt, host, alloc, options, epoch, shared)?;
-    let (closed, receipts, control) = run_workers(
+    let ((closed, receipts, spoken), control) = run_workers(
         rt,
         host,
         alloc,
@@ -110,5 +112,6 @@ where
         Err(fault) => return Err(Stopped::Finish(fault)),
     };
     let taken = meet_all(alloc, receipts, tells)?;
+    recall_all(spoken.as_slice())?;
     Ok((summary, taken))
 }

@@ -12,6 +12,8 @@ pub(crate) enum Stopped {
     /// A lane could not tell a worker how an operation ended, and what it told that worker is not
     /// known.
     Untold,
+    /// A worker gave an answer from the memory that no worker had given to it.
+    Unknown,
     /// The system gave no random numbers.
     Random,
     /// An allocation failed after the start.

@@ -25,6 +25,11 @@ impl Tally {
         }
     }
 
+    /// The worker's number in its term, from 0.
+    pub(crate) fn worker(&self) -> usize {
+        self.worker
+    }
+
     /// An operation was put to this lane, for the request of this timer.
     pub(crate) fn put(&mut self, lane: u32, timer: &Timer) {
         if let Some(count) = self.lanes.get_mut(lane as usize) {

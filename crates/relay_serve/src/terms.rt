@@ -189,6 +189,7 @@ where
     let mut epoch = first;
     'terms: for _ in rt.forever() {
         shared.begin(epoch);
+        shared.memory.clear(&rt);
         let (summary, taken) = match serve_epoch(
             rt,
             host,

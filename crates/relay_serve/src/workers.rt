@@ -6,12 +6,13 @@ ghost use Rattle.relay_serve.specs.Workers.{AreUnused, given_as, given_to, produ
 
 use crate::board::{Shared, share};
 use crate::clerk::Clerk;
+use crate::entry::Spoken;
 use crate::options::ServeOptions;
 use crate::producing::Making;
 use crate::settler::Settler;
 use crate::stopped::Stopped;
 use crate::tally::Tally;
-use crate::worker::{Settings, Worker};
+use crate::worker::{Left, Settings, Worker};
 use crossbeam_channel::{Receiver, Sender, bounded};
 use rand_pcg::Pcg64;
 use relay_clients::{Client, Parking};
@@ -39,21 +40,23 @@ pub(crate) struct WorkerPromise {
     pub(crate) settings: Snapshot<Settings>,
 }
 
-impl Promise<(ClosedProducer, ReceiptTake<Ending>)> for WorkerPromise {
+impl Promise<Left> for WorkerPromise {
     ghost use Rattle.relay_serve.specs.Answering.{HasServed};
     ghost use Rattle.relay_serve.specs.Workers.{given_as};
 
     ghost kept_by = { λ p ended. HasServed (given_as p.settings.value p.producer.value) ended.0
-        ended.1 };
+        ended.1 ended.2 };
 }
 
-/// A worker in its thread, which returns its producer, closed, and the end of the channel of its
-/// receipts.
-pub(crate) type WorkerThread = PromisedHandle<(ClosedProducer, ReceiptTake<Ending>), WorkerPromise>;
+/// A worker in its thread.
+pub(crate) type WorkerThread = PromisedHandle<Left, WorkerPromise>;
 
-/// What workers that have ended leave: their producers, closed, and their ends of the channels of
-/// receipts; and the control.
-type Ended = (Vec<ClosedProducer>, Vec<ReceiptTake<Ending>>, ClosedControl);
+/// What workers that have ended leave, in their order: their producers, closed, their ends of the
+/// channels of receipts, and what they gave to the memory and answered from it.
+type AllLeft = (Vec<ClosedProducer>, Vec<ReceiptTake<Ending>>, Vec<Spoken>);
+
+/// That, and the control.
+type Ended = (AllLeft, ClosedControl);
 
 /// Where workers get connections, where these go that wait for their clients, and where operations that
 /// are reported are set aside, if they are.
@@ -253,28 +256,28 @@ where
     Ok(threads)
 }
 
-// Waits until each worker has ended, and returns their producers and their ends of the channels of
-// receipts, in order.
+// Waits until each worker has ended, and returns what they leave.
 fn join_all<R: Threads>(
     rt: &R,
     alloc: Global,
     threads: Vec<WorkerThread>,
-) -> Result<(Vec<ClosedProducer>, Vec<ReceiptTake<Ending>>), AllocError>
-    ensures { IfOk result (λ r. HaveServed (map given_to threads.items) r.0.items r.1.items) }
+) -> Result<AllLeft, AllocError>
+    ensures { IfOk result (λ r. HaveServed (map given_to threads.items) r.0.items r.1.items r.2.items) }
 {
     let mut closed = Vec::with_capacity(alloc, threads.len())?;
     let mut receipts = Vec::with_capacity(alloc, threads.len())?;
+    let mut spoken = Vec::with_capacity(alloc, threads.len())?;
     'threads: for thread in threads {
-        let (producer, take) = thread.join(rt);
+        let (producer, take, said) = thread.join(rt);
         closed.push(producer)?;
         receipts.push(take)?;
+        spoken.push(said)?;
     }
-    Ok((closed, receipts))
+    Ok((closed, receipts, spoken))
 }
 
 /// Starts a worker for each of these producers, and waits until they have ended, while the lanes get
-/// a tick every 100 ms. Then it closes the control. Returns the producers and their ends of the
-/// channels of receipts, in order, and the control.
+/// a tick every 100 ms. Then it closes the control. Returns what the workers leave, and the control.
 pub(crate) fn run_workers<R>(
     rt: R,
     host: &HostRuntime,
@@ -289,8 +292,8 @@ where
     R: Threads + Wait + Clock + Copy + Send + 'static,
     ensures served { IfOk result (λ r. HaveServed
         (map (given_by options.now.face (index_in options.now.index)) producers.items)
-        r.0.items r.1.items) }
-    ensures control { IfOk result (λ r. identities (closed_puts r.2.ends)
+        r.0.0.items r.0.1.items r.0.2.items) }
+    ensures control { IfOk result (λ r. identities (closed_puts r.1.ends)
         ≡ identities (open_puts control.ends)) }
 {
     let mut control = control;
@@ -306,6 +309,6 @@ where
         ended,
     )?;
     tick_until_ended(&rt, &last, &mut control);
-    let (closed, receipts) = join_all(&rt, alloc, threads)?;
-    Ok((closed, receipts, control.close(&rt)))
+    let left = join_all(&rt, alloc, threads)?;
+    Ok((left, control.close(&rt)))
 }

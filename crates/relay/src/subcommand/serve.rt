@@ -63,6 +63,10 @@ versions nor memory run out.
 The bytes of requests that were read and not yet answered, beyond the first 16 KiB of each, are at most --max-open-bytes, and one
 more request. What does not fit waits, for as long as ,wait=DURATION behind its listener's ADDR says, and is then refused with 429.
 
+A client that leaves before its answer was sent, and sends the very same request again within --remember, gets the answer
+to the first one, if each of its writes was applied and no other request has put one of its documents since. So what is
+sent again after a time limit is not written twice.
+
 The end of standard input stops it, and so does `POST /_relay/stop` to a loopback address: it takes nothing more, answers
 what it has, and ends. Standard error gets `listening on ADDR, epoch N` at the start for each ADDR, and what --log says, and standard
 output the counts at the end:
@@ -92,6 +96,12 @@ const LOG: TextOption = TextOption {
     name: "log",
     value: "WHAT",
     help: "Say on standard error what goes wrong with the index: `errors`; that and the start and the end: `events`; that and each request: `requests`; or `none`",
+};
+
+const REMEMBER: TextOption = TextOption {
+    name: "remember",
+    value: "DURATION",
+    help: "How long to keep the answer to a request whose client left before it was sent, so that the same request, sent again, gets it, 1ms to 168h; a bare number counts milliseconds. never: not at all",
 };
 
 const INDEX: TextOption = TextOption {
@@ -132,6 +142,9 @@ const ATTEMPTS: TextOption = TextOption {
 
 // How long a failing operation is sent again, if nothing else is said.
 const GIVE_UP: &str = "8s";
+
+// How long an answer is kept, if nothing else is said.
+const REMEMBERED: &str = "5m";
 
 const WORKERS: NumberOption = NumberOption {
     name: "workers",
@@ -258,6 +271,7 @@ pub fn command<'a>(alloc: Global, name: &'static str) -> Result<Command<'a>, All
         .durations(DURATIONS)
         .arg(GIVE_UP_AFTER.arg(alloc).default_value(GIVE_UP))
         .try_arg(attempts_arg(alloc))
+        .arg(REMEMBER.arg(alloc).default_value(REMEMBERED))
         .text(&REPORT)
         .arg(LOG.arg(alloc).default_value("errors"))
         .build()
@@ -288,6 +302,8 @@ const NO_WAIT: &str =
     "error: --listen ADDR may end in `,wait=DURATION`, 0s to 168h, or `,wait=never`, and in nothing else";
 
 const NO_LOG: &str = "error: --log WHAT has to be `none`, `errors`, `events` or `requests`";
+
+const NO_TIME: &str = "error: --remember DURATION has to be 1ms to 168h, or `never`";
 
 const NO_FACE: &str = "error: --face FACE has to be `compatible` or `opensearch`";
 
@@ -362,6 +378,7 @@ struct Given<'a> {
     face: Face,
     log: ServeLog,
     retries: Retries,
+    remember: Option<u64>,
 }
 
 // Reads these. If something is wrong with them, prints so, and returns the exit status.
@@ -377,12 +394,16 @@ fn given_by<'a, R: Eprint>(rt: &R, matches: &'a ArgMatches<'_>) -> Result<Given<
     let Some(log) = ServeLog::named(LOG.get(matches).unwrap_or("")) else {
         return Err(usage(rt, NO_LOG));
     };
+    let Some(remember) = span_of(REMEMBER.get(matches).unwrap_or(REMEMBERED)) else {
+        return Err(usage(rt, NO_TIME));
+    };
     Ok(Given {
         to,
         durations,
         face,
         log,
         retries: retries_of(rt, matches)?,
+        remember,
     })
 }
 
@@ -399,7 +420,7 @@ fn set_texts(
     Ok(())
 }
 
-// The longest time that a request may wait for room, in milliseconds.
+// The longest time that a request may wait for room, or an answer is kept, in milliseconds.
 const WAIT_LIMIT: u64 = 604_800_000;
 
 // For how many milliseconds a request waits, as the word behind an address says. `None`: the word says
@@ -411,6 +432,18 @@ fn wait_of(word: &str) -> Option<Option<u64>> {
     }
     match duration_of(time, 1) {
         Some(wait) if wait <= WAIT_LIMIT => Some(Some(wait)),
+        _ => None,
+    }
+}
+
+// For how many milliseconds an answer is kept, if it is, as this says. `None`: it says nothing of the
+// kind.
+fn span_of(time: &str) -> Option<Option<u64>> {
+    if time == "never" {
+        return Some(None);
+    }
+    match duration_of(time, 1) {
+        Some(span) if span > 0 && span <= WAIT_LIMIT => Some(Some(span)),
         _ => None,
     }
 }
@@ -473,6 +506,7 @@ fn options_of(
         idle: u64::from(given.durations.idle),
         longest: TURN_AFTER.get(matches),
         room: MAX_OPEN.get(matches),
+        remember: given.remember,
         report: None,
         log: given.log,
     }

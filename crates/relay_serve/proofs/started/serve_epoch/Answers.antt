@@ -8,6 +8,7 @@ use Rattle.relay_threads.specs.Relay.{rows_of}
 use Rattle.relay_wires.specs.Numbers.{numbers}
 use Rattle.relay_common.proofs.Handing.{rows_of_all, count_back, control_back}
 use Rattle.relay_serve.specs.Answering.{index_in}
+use Rattle.relay_serve.specs.Remembering.{AllGiven}
 use Rattle.relay_serve.specs.Workers.{channel_in, producer_in}
 use Rattle.relay_serve.proofs.Delivering.{delivers, workers_identities}
 use Rattle.relay_serve.proofs.Serving.{all_served, answered_and_put, served_channels}
@@ -17,7 +18,7 @@ pub finish_telling-requires-clause-count : goal.finish_telling-requires-clause-c
 finish_telling-requires-clause-count g c κs within =
     let given = c.in_ok-relay.producers.items in
     let relay = c.in_ok-relay.relay in
-    let served = all_served c.args.options.now.face (index_in c.args.options.now.index) relay.queues c.args.epoch 0 given c.in_ok-closed.closed.items c.in_ok-closed.receipts.items c.in_ok-relay.ensures.producers c.in_ok-closed.ensures.served in
+    let served = all_served c.args.options.now.face (index_in c.args.options.now.index) relay.queues c.args.epoch 0 given c.in_ok-closed.closed.items c.in_ok-closed.receipts.items c.in_ok-closed.spoken.items c.in_ok-relay.ensures.producers c.in_ok-closed.ensures.served in
     let same = workers_identities given c.in_ok-closed.closed.items served.identities in
     c.in_ok-closed.closed.ok.0 ∙ count_back (map producer_in given) c.in_ok-closed.closed.items same ∙ length-map given producer_in ∙ sym c.in_ok-relay.producers.ok.0 ∙ c.in_ok-relay.ensures.count
 
@@ -25,7 +26,7 @@ pub finish_telling-requires-clause-rows : goal.finish_telling-requires-clause-ro
 finish_telling-requires-clause-rows g c κs within =
     let given = c.in_ok-relay.producers.items in
     let relay = c.in_ok-relay.relay in
-    let served = all_served c.args.options.now.face (index_in c.args.options.now.index) relay.queues c.args.epoch 0 given c.in_ok-closed.closed.items c.in_ok-closed.receipts.items c.in_ok-relay.ensures.producers c.in_ok-closed.ensures.served in
+    let served = all_served c.args.options.now.face (index_in c.args.options.now.index) relay.queues c.args.epoch 0 given c.in_ok-closed.closed.items c.in_ok-closed.receipts.items c.in_ok-closed.spoken.items c.in_ok-relay.ensures.producers c.in_ok-closed.ensures.served in
     let same = workers_identities given c.in_ok-closed.closed.items served.identities in
     rows_of_all relay.queues c.args.epoch relay.config.producers (map producer_in given) c.in_ok-closed.closed.items c.in_ok-closed.control
     (sym c.in_ok-relay.ensures.count ∙ c.in_ok-relay.producers.ok.0 ∙ sym (length-map given producer_in)) c.in_ok-relay.ensures.producers same
@@ -35,7 +36,7 @@ pub meet_all-requires : goal.meet_all-requires
 meet_all-requires g c =
     let given = c.in_ok-relay.producers.items in
     record {
-      channels = subst (λ cs. TellOn cs 0 c.in-Ok.finished.1.items) (sym (served_channels c.args.options.now.face (index_in c.args.options.now.index) given c.in_ok-closed.closed.items c.in_ok-closed.receipts.items c.in_ok-closed.ensures.served))
+      channels = subst (λ cs. TellOn cs 0 c.in-Ok.finished.1.items) (sym (served_channels c.args.options.now.face (index_in c.args.options.now.index) given c.in_ok-closed.closed.items c.in_ok-closed.receipts.items c.in_ok-closed.spoken.items c.in_ok-closed.ensures.served))
           (tell_on (map channel_in given) 0 c.in_ok-relay.relay.tells c.in-Ok.finished.1.items c.in_ok-relay.ensures.tells c.in-Ok.ensures.destinations);
     }
 
@@ -45,9 +46,10 @@ returns g c =
     let relay = c.in_ok-relay.relay in
     let closed = c.in_ok-closed.closed.items in
     let receipts = c.in_ok-closed.receipts.items in
+    let spoken = c.in_ok-closed.spoken.items in
     let tells = c.in-Ok.finished.1.items in
     let channels = map channel_in given in
-    let served = all_served c.args.options.now.face (index_in c.args.options.now.index) relay.queues c.args.epoch 0 given closed receipts c.in_ok-relay.ensures.producers c.in_ok-closed.ensures.served in
+    let served = all_served c.args.options.now.face (index_in c.args.options.now.index) relay.queues c.args.epoch 0 given closed receipts spoken c.in_ok-relay.ensures.producers c.in_ok-closed.ensures.served in
     let config = c.in_ok-relay.ensures.config in
     let workers = c.args.options.now.config.producers in
     let count : workers ≡ length given = sym (ap (λ (k : RelayConfig). k.producers) config) ∙ sym c.in_ok-relay.ensures.count ∙ c.in_ok-relay.producers.ok.0 in
@@ -55,7 +57,7 @@ returns g c =
     let told : LaneTells → _ = λ t. identities t.ends.items in
     let lanes : relay.config.lanes ≡ length tells = sym c.in_ok-relay.ensures.lanes ∙ sym (length-map relay.tells told) ∙ sym (ap length c.in-Ok.ensures.destinations) ∙ length-map tells told in
     let new = c.in_ok-relay.ensures.receipts ∙ ap (λ n. map (Rattle.relay_telling.specs.New.new_take n) channels) lanes in
-    let put = answered_and_put c.args.options.now.face (index_in c.args.options.now.index) relay.queues c.args.epoch workers (length tells) given closed receipts channels count served new c.in_ok-taken.ensures.well_taken in
+    let put = answered_and_put c.args.options.now.face (index_in c.args.options.now.index) relay.queues c.args.epoch workers (length tells) given closed receipts spoken channels count served new c.in_ok-taken.ensures.well_taken (subst AllGiven c.as_slice.ensures.value c.in_ok-recall_all.ensures) in
     let on = tell_on channels 0 relay.tells tells c.in_ok-relay.ensures.tells c.in-Ok.ensures.destinations in
     record {
       delivered =
