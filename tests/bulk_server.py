@@ -1,5 +1,6 @@
 """A server of bulk requests for the tests of `relay run`: an index with external versions, which keeps those of deleted
 documents, and a plan of faults, which says which request is lost, cut, late, refused or answered with something else."""
+import contextlib
 import json
 import socket
 import threading
@@ -56,6 +57,8 @@ class Server:
 
     # Whether all requests are served by `answer`, and whether it notes what it answers.
     sees_all, tells = True, True
+    # Where it listens.
+    family, host = socket.AF_INET, "127.0.0.1"
 
     def __init__(self, plan=lambda number: None, refuse=lambda meta: None, most=2**64, early=None, delay=None, states=False):
         self.index, self.plan, self.refuse, self.most, self.early, self.delay = Index(states), plan, refuse, most, early, delay
@@ -75,13 +78,32 @@ class Server:
             threading.Thread(target=self.serve, args=(stream,), daemon=True).start()
 
     def listen(self, port):
-        self.listener = self.listener_at(port)
+        self.hold(port)
+        self.come_up()
+
+    def hold(self, port):
+        """Takes a port, and does not listen yet: connections are refused, and the system gives the port to nobody else."""
+        self.listener = socket.socket(self.family)
+        self.listener.setsockopt(socket.SOL_SOCKET, socket.SO_REUSEADDR, 1)
+        self.listener.bind((self.host, port))
         self.port = self.listener.getsockname()[1]
+
+    def come_up(self):
+        """Listens on the port that it holds."""
+        self.listener.listen()
         self.acceptor = threading.Thread(target=self.accept, daemon=True)
         self.acceptor.start()
 
-    def listener_at(self, port):
-        return socket.create_server(("127.0.0.1", port))
+    def go_down(self):
+        """Stops listening, and drops all connections. It keeps its port: one that nobody holds may be that of the next connection of any
+        program, for as long as that lasts."""
+        self.close()
+        self.hold(self.port)
+        with self.lock:
+            streams, self.streams = self.streams, []
+        for stream in streams:
+            with contextlib.suppress(OSError):
+                stream.shutdown(socket.SHUT_RDWR)
 
     def close(self):
         """Stops listening. The accepting thread is joined before its socket is closed: otherwise it could accept a connection
@@ -96,18 +118,11 @@ class Server:
         self.listen(port)
 
     def rest(self, seconds):
-        """Stops listening, drops all connections, and listens on the same port again after `seconds`."""
+        """Is down for `seconds`."""
         self.sees_all = False
-        self.close()
-        with self.lock:
-            streams, self.streams = self.streams, []
-        for stream in streams:
-            try:
-                stream.shutdown(socket.SHUT_RDWR)
-            except OSError:
-                pass
+        self.go_down()
         time.sleep(seconds)
-        self.listen(self.port)
+        self.come_up()
 
     def serve(self, stream):
         with stream:

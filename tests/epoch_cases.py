@@ -238,13 +238,12 @@ def patient():
         check("two seconds of 503", done == (3, b"", b"epoch: status 503\n") and 2 <= len(server.puts) <= 3 and 1 <= time.monotonic() - begun < 10, (done, len(server.puts)))
         server.close()
         server = CounterServer()
-        port = server.port
-        server.close()
+        server.go_down()
         running = []
-        waiting = threading.Thread(target=lambda: running.append(leased(port, [path], "--patience", "30")))
+        waiting = threading.Thread(target=lambda: running.append(leased(server.port, [path], "--patience", "30")))
         waiting.start()
         time.sleep(1.5)
-        server.listen(port)
+        server.come_up()
         waiting.join()
         check("an index that comes back", running[0] == ALL_DONE and epochs_of(server) == [1], running)
         server.close()

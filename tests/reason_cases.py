@@ -62,11 +62,10 @@ def old_epochs():
 def first_connection_refused():
     """The same if nobody listens at first."""
     server = server_with({identity: 3 * EPOCH + 1 for identity, _ in OPS})
-    port = server.port
-    server.close()
+    server.go_down()
     with tempfile.TemporaryDirectory() as folder:
-        threading.Timer(0.3, lambda: server.listen(port)).start()
-        done = relay_run(port, [written(folder, 0, OPS)], "--epoch", "1", "--linger", "0")
+        threading.Timer(0.3, server.come_up).start()
+        done = relay_run(server.port, [written(folder, 0, OPS)], "--epoch", "1", "--linger", "0")
     check("a refused connection and an old epoch", done[:2] == (5, CONFLICTS + b"applied 0 already 0 reported 5\n") and HINT.fullmatch(done[2]), done)
     server.close()
 

@@ -592,12 +592,11 @@ def stops():
 def down():
     """An index that is down: the client hears so, and the relay goes on."""
     server = Server()
-    port = server.port
-    server.close()
+    server.go_down()
     serve = Serve(server, "--workers", "2", "--lanes", "1", "--attempts", "2")
     status, value = serve.ask("PUT", "/books/_doc/1", b"{}")
     check("an index that is down", status == 503 and value["error"]["type"] == "relay_gave_up", value)
-    server.listen(port)
+    server.come_up()
     check("it is up again", serve.ask("PUT", "/books/_doc/1", b"{}")[0] == 201)
     check("the stop after an outage", serve.stop()[:2] == (0, b"applied 1 already 0 reported 1\n"))
 
@@ -642,11 +641,7 @@ def watched():
     check("what the index was sent", found["relay_index_operations_total"] == 5 and found["relay_index_requests_total"] == found['relay_index_answers_total{status="200"}'] == server.requests and found["relay_index_up"] == 1, found)
     check("nothing is open", found['relay_open_operations{lane="0"}'] == found['relay_open_operations{lane="1"}'] == found["relay_oldest_open_seconds"] == 0 and found["relay_open_bytes"] < 65536, found)
     check("its connections", found['relay_connections{state="served"}'] >= 1 and found['relay_connections{state="waiting"}'] == 0, found)
-    server.close()
-    with server.lock:
-        streams, server.streams = server.streams, []
-    for stream in streams:
-        stream.close()
+    server.go_down()
     asking = threading.Thread(target=serve.ask, args=("PUT", "/books/_doc/4", b"{}"))
     asking.start()
     wait_until(lambda: serve.ask("GET", "/_relay/health")[0] == 503)
@@ -656,7 +651,7 @@ def watched():
     check("so its metrics say", found["relay_index_up"] == 0, found)
     check("one operation is open, in one lane", sorted(found['relay_open_operations{lane="%d"}' % lane] for lane in (0, 1)) == [0, 1], found)
     check("for as long as its request", 0.1 <= found["relay_oldest_open_seconds"] <= 8, found)
-    server.listen(server.port)
+    server.come_up()
     asking.join()
     check("it is up again", serve.ask("GET", "/_relay/health") == (200, {"status": "up"}))
     status, out, _ = serve.stop()

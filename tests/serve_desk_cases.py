@@ -105,18 +105,17 @@ def logs():
     """`--log`: what goes wrong, the start and the end, and each request."""
     def down_and_up(*more, log=None):
         server = Server()
-        port = server.port
-        server.close()
+        server.go_down()
         serve = Serve(server, "--workers", "2", "--lanes", "1", "--give-up-after", "60s", "--epoch", "9", *more, log=log)
         asking = threading.Thread(target=lambda: serve.ask("PUT", "/books/_doc/1", b"{}"))
         asking.start()
         time.sleep(1.5)
-        server.listen(port)
+        server.come_up()
         asking.join()
         status, out, err = serve.stop()
         check("it ends %s" % (more,), (status, out) == (0, b"applied 1 already 0 reported 0\n"), (status, out))
         server.close()
-        return port, err
+        return server.port, err
 
     port, err = down_and_up()
     said = stamped(err)

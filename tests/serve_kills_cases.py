@@ -36,26 +36,11 @@ AGAIN, PAUSE = ("relay_timeout", "relay_gave_up"), 0.05
 DONE = re.compile(rb"applied (\d+) already (\d+) reported (\d+)\n")
 
 
-def steady_port():
-    """Returns a free port that the system gives to no connection. While nobody listens at such a one, a client that tries to connect cannot
-    meet itself there, and no other program takes it."""
-    with open("/proc/sys/net/ipv4/ip_local_port_range") as file:
-        least = int(file.read().split()[0])
-    for _ in range(1_000 if least > 20_000 else 0):
-        port = random.randrange(10_000, least)
-        try:
-            socket.create_server(("127.0.0.1", port)).close()
-            return port
-        except OSError:
-            pass
-    return free_port()
-
-
 class Relay:
     """A `relay serve` that is started again and again, at one port and with one file of the epoch."""
 
     def __init__(self, server, folder):
-        self.server, self.port, self.epoch, self.file = server, steady_port(), 0, os.path.join(folder, "epoch")
+        self.server, self.port, self.epoch, self.file = server, free_port(), 0, os.path.join(folder, "epoch")
         self.begun = threading.Event()
 
     def start(self, *options):
@@ -106,7 +91,7 @@ class Mortal(Server):
     def __init__(self, *args, **more):
         self.life, self.is_up, self.left, self.fell, self.own = 0, True, None, threading.Event(), threading.local()
         super().__init__(*args, **more)
-        self.move(steady_port())
+        self.move(free_port())
 
     def serve(self, stream):
         self.own.life = self.life
@@ -146,9 +131,9 @@ class Mortal(Server):
         """Drops all connections, refuses others for so long, and is back."""
         self.rest(seconds)
 
-    def listen(self, port):
+    def come_up(self):
         self.is_up = True
-        super().listen(port)
+        super().come_up()
 
 
 class Try:

@@ -23,9 +23,6 @@ class At(Server):
         self.family, self.host = family, host
         super().__init__()
 
-    def listener_at(self, port):
-        return socket.create_server((self.host, port), family=self.family)
-
 
 def is_possible(hosts):
     """Whether this machine has both addresses, and lets a command see another table of hosts."""

@@ -8,7 +8,6 @@ import re
 import shlex
 import shutil
 import signal
-import socket
 import subprocess
 import tempfile
 import threading
@@ -516,18 +515,6 @@ def until_idle():
         server.close()
 
 
-def go_down(server):
-    """Stops listening, and drops all connections."""
-    server.close()
-    with server.lock:
-        streams, server.streams = server.streams, []
-    for stream in streams:
-        try:
-            stream.shutdown(socket.SHUT_RDWR)
-        except OSError:
-            pass
-
-
 def until_busy():
     """A run with requests in flight finishes them, and its state has them; in an outage without end it is left, with what was settled."""
     with tempfile.TemporaryDirectory() as folder:
@@ -543,7 +530,7 @@ def until_busy():
         os.remove(until)
         process = start(*words)
         wait_until(lambda: server.requests > counted // 50 + 10)
-        go_down(server)
+        server.go_down()
         time.sleep(0.5)
         status, out, err, soon = ended_by(folder, process, 4)
         mark = marks_of(folder)[0][2]
@@ -551,7 +538,7 @@ def until_busy():
         lacks = [n for n, (_, source) in enumerate(ops[:mark]) if source is not None and n not in done]
         check("an outage", soon and status == 3 and out == b"" and err.endswith(b"stopped: --until; not all was settled\n") and mark >= counted and not lacks, (soon, status, out, err, mark, lacks[:5]))
         os.remove(until)
-        server.listen(server.port)
+        server.come_up()
         server.delay = None
         status, out, err = finish(*words)
         check("and again", status == 0 and marks_of(folder)[0][2] == 20_000, (status, out, err))

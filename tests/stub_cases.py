@@ -1,5 +1,7 @@
 """What `relay stub` does: a server on a free port of the loopback, queried with Python's own client."""
+import contextlib
 import http.client
+import random
 import socket
 import subprocess
 import threading
@@ -11,9 +13,17 @@ NOT_BULK = b'{"error":{"type":"NotBulk"},"status":400}'
 
 
 def free_port():
-    with socket.socket() as probe:
-        probe.bind(("127.0.0.1", 0))
-        return probe.getsockname()[1]
+    """Returns a free port that the system gives to no connection. While nobody listens at such a one, a client that tries to connect cannot
+    meet itself there, and no other program takes it."""
+    with open("/proc/sys/net/ipv4/ip_local_port_range") as file:
+        least = int(file.read().split()[0])
+    for _ in range(1_000 if least > 20_000 else 0):
+        port = random.randrange(10_000, least)
+        with contextlib.suppress(OSError):
+            socket.create_server(("127.0.0.1", port)).close()
+            return port
+    with socket.create_server(("127.0.0.1", 0)) as free:
+        return free.getsockname()[1]
 
 
 class Stub:
