@@ -295,7 +295,8 @@ def connections_closed_while_idle():
 
 
 def wait_until(holds):
-    for _ in range(500):
+    """Waits until this holds, for at most a minute."""
+    for _ in range(6_000):
         if holds():
             return
         time.sleep(0.01)

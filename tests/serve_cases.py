@@ -621,7 +621,7 @@ def metrics_of(serve):
 def watched():
     """What operators see: whether writes can be settled, and what is counted."""
     server = Server(refuse=lambda meta: 400 if meta["_id"] == "bad" else None)
-    serve = Serve(server, "--workers", "4", "--lanes", "2", "--epoch", "7")
+    serve = Serve(server, "--workers", "4", "--lanes", "2", "--epoch", "7", "--give-up-after", "60s")
     check("it is up", serve.ask("GET", "/_relay/health") == (200, {"status": "up"}))
     check("HEAD of its health", serve.whole("HEAD", "/_relay/health")[::2] == (200, b""))
     for target in ("/_relay/health", "/_relay/metrics"):
@@ -645,12 +645,14 @@ def watched():
     asking = threading.Thread(target=serve.ask, args=("PUT", "/books/_doc/4", b"{}"))
     asking.start()
     wait_until(lambda: serve.ask("GET", "/_relay/health")[0] == 503)
-    check("it is down", serve.ask("GET", "/_relay/health") == (503, {"status": "down", "reason": "the index does not answer"}))
+    wait_until(lambda: "not answered" in serve.ask("GET", "/_relay/health")[1]["reason"])
+    status, value = serve.ask("GET", "/_relay/health")
+    check("it is down, and for how long", (status, value["status"]) == (503, "down") and re.fullmatch(r"the index has not answered for at least [1-9]\d* s", value["reason"]), value)
     time.sleep(0.2)
     found = metrics_of(serve)
     check("so its metrics say", found["relay_index_up"] == 0, found)
     check("one operation is open, in one lane", sorted(found['relay_open_operations{lane="%d"}' % lane] for lane in (0, 1)) == [0, 1], found)
-    check("for as long as its request", 0.1 <= found["relay_oldest_open_seconds"] <= 8, found)
+    check("for as long as its request", 0.1 <= found["relay_oldest_open_seconds"] <= 60, found)
     server.come_up()
     asking.join()
     check("it is up again", serve.ask("GET", "/_relay/health") == (200, {"status": "up"}))
@@ -671,99 +673,167 @@ def written(server, number):
     return [it[2] for it in dict.fromkeys(server.index.applied.get(("books", number), []))]
 
 
-def ended(server, number, count):
-    """Waits until so many versions of a document were applied, and their requests have been answered."""
-    wait_until(lambda: len(written(server, number)) >= count)
-    time.sleep(0.3)
+class Gate:
+    """The delay of an index that holds requests while it is shut. Each takes long enough for its answer to be kept."""
+
+    def __init__(self):
+        self.is_open, self.requests = threading.Event(), 0
+        self.is_open.set()
+
+    def __call__(self):
+        self.requests += 1
+        self.is_open.wait(60)
+        return 0.15
+
+
+def kept(serve, count):
+    """Waits until so many answers are kept."""
+    wait_until(lambda: metrics_of(serve)["relay_kept_answers"] == count)
+
+
+def leaves_one(serve, method, target, body):
+    """Has a client leave before it is answered, and waits until the answer is kept."""
+    left(serve, method, target, body)
+    kept(serve, 1)
+
+
+ONE, TWO = b'{"n":1}', b'{"n":2}'
 
 
 def repeats():
     """Clients that leave before their answer, and send the same again."""
-    slow = [0.5]
-    server = Server(delay=lambda: slow[0])
-    serve = Serve(server, "--workers", "4", "--lanes", "1", "--remember", "4s")
-    one, two = b'{"n":1}', b'{"n":2}'
+    gate = Gate()
+    server = Server(delay=gate)
+    serve = Serve(server, "--workers", "4", "--lanes", "1")
+    one, two = ONE.decode(), TWO.decode()
 
-    left(serve, "PUT", "/books/_doc/1", one)
-    time.sleep(0.25)
-    status, _, text = serve.whole("PUT", "/books/_doc/1", one)
-    check("one that comes while the first still runs joins it", status == 201 and json.loads(text)["result"] == "created" and len(written(server, "1")) == 1, (status, text))
-    check("and once more", serve.whole("PUT", "/books/_doc/1", one)[::2] == (status, text))
-    check("as it was put once", len(written(server, "1")) == 1, written(server, "1"))
-    check("another body is put", serve.ask("PUT", "/books/_doc/1", two)[0] == 200 and written(server, "1") == ['{"n":1}', '{"n":2}'], written(server, "1"))
-    check("and so is the first one again, since it would be an untruth now", serve.ask("PUT", "/books/_doc/1", one)[0] == 200 and written(server, "1") == ['{"n":1}', '{"n":2}', '{"n":1}'], written(server, "1"))
+    gate.is_open.clear()
+    left(serve, "PUT", "/books/_doc/1", ONE)
+    wait_until(lambda: gate.requests == 1)
+    time.sleep(0.2)
+    answers = []
+    joining = threading.Thread(target=lambda: answers.append(serve.ask("PUT", "/books/_doc/1", ONE)))
+    joining.start()
+    time.sleep(0.2)
+    gate.is_open.set()
+    joining.join()
+    check("one that comes while the first still runs gets its answer", answers[0][0] == 201 and answers[0][1]["result"] == "created" and written(server, "1") == [one], answers)
+    check("it is given once", serve.ask("PUT", "/books/_doc/1", ONE)[0] == 200 and written(server, "1") == [one, one], written(server, "1"))
 
-    whole = body_of([("2", '{"n":1}'), ("3", '{"n":1}')])
-    left(serve, "POST", "/books/_bulk", whole)
-    ended(server, "3", 1)
+    leaves_one(serve, "PUT", "/books/_doc/2", ONE)
+    check("one that comes later gets its answer", serve.ask("PUT", "/books/_doc/2", ONE)[0] == 201 and written(server, "2") == [one], written(server, "2"))
+    leaves_one(serve, "PUT", "/books/_doc/3", ONE)
+    check("another body is put", serve.ask("PUT", "/books/_doc/3", TWO)[0] == 200 and written(server, "3") == [one, two], written(server, "3"))
+    check("and so is the first one again, since it would be an untruth now", serve.ask("PUT", "/books/_doc/3", ONE)[0] == 200 and written(server, "3") == [one, two, one], written(server, "3"))
+
+    given = metrics_of(serve)["relay_requests_repeated_total"]
+    leaves_one(serve, "PUT", "/books/_doc/4", ONE)
+    left(serve, "PUT", "/books/_doc/4", ONE)
+    wait_until(lambda: metrics_of(serve)["relay_requests_repeated_total"] == given + 1)
+    kept(serve, 1)
+    check("one whose second client left, too, is kept", serve.ask("PUT", "/books/_doc/4", ONE)[0] == 201 and written(server, "4") == [one], written(server, "4"))
+    check("and given once more", metrics_of(serve)["relay_requests_repeated_total"] == given + 2 and metrics_of(serve)["relay_kept_answers"] == 0)
+    check("the stop after repeats", serve.stop()[0] == 0)
+    server.close()
+
+
+def repeats_of_many():
+    """The same of bulk requests, beside other writes, and of documents without ids."""
+    server = Server(delay=Gate())
+    serve = Serve(server, "--workers", "4", "--lanes", "2")
+    many = body_of([(str(number), "{}") for number in range(500)])
+    leaves_one(serve, "POST", "/books/_bulk", many)
+    for turn in range(4):
+        serve.ask("POST", "/books/_bulk", body_of([("%d-%d" % (turn, number), "{}") for number in range(500)]))
     for query in ("", "?timeout=1m"):
-        status, value = serve.ask("POST", "/books/_bulk" + query, whole)
-        check("a whole body" + query, status == 200 and not value["errors"] and len(written(server, "2")) == (2 if query else 1), (value, written(server, "2")))
+        status, value = serve.ask("POST", "/books/_bulk" + query, many)
+        check("a whole body" + query, status == 200 and not value["errors"] and len(written(server, "7")) == (2 if query else 1), written(server, "7"))
 
-    part = body_of([("4", '{"n":1}')]) + b'{"update":{"_index":"books","_id":"5"}}\n{"doc":{}}\n'
+    part = body_of([("a", "{}")]) + b'{"update":{"_index":"books","_id":"b"}}\n{"doc":{}}\n'
     left(serve, "POST", "/_bulk", part)
-    ended(server, "4", 1)
+    wait_until(lambda: written(server, "a"))
+    time.sleep(0.3)
     status, value = serve.ask("POST", "/_bulk", part)
-    check("one with an item that is an error is put again", status == 200 and value["errors"] and len(written(server, "4")) == 2, (value, written(server, "4")))
+    check("one with an item that is an error is put again", status == 200 and value["errors"] and len(written(server, "a")) == 2, (value, written(server, "a")))
 
-    ids, lock = [], threading.Lock()
-
-    def add():
+    def add(ids):
         _, value = serve.ask("POST", "/books/_doc", b'{"line":"same"}')
-        with lock:
-            ids.append(value["_id"])
+        ids.append(value["_id"])
 
-    adding = [threading.Thread(target=add) for _ in range(2)]
+    ids = []
+    adding = [threading.Thread(target=add, args=(ids,)) for _ in range(2)]
     for one_more in adding:
         one_more.start()
         time.sleep(0.25)
     for one_more in adding:
         one_more.join()
     check("two clients that stay make two documents", len(set(ids)) == 2, ids)
+    leaves_one(serve, "POST", "/books/_doc", b'{"line":"same"}')
+    add(ids)
+    add(ids)
+    check("of two that come after one that left, one gets its document", len(set(ids)) == 4 and all(written(server, it) for it in ids), ids)
+    check("there is a document for each client", sum(key[1] not in ids for key in server.index.applied if written(server, key[1]) == ['{"line":"same"}']) == 0, ids)
+    check("the stop after many", serve.stop()[0] == 0)
+    server.close()
 
-    left(serve, "PUT", "/books/_doc/6", one)
-    ended(server, "6", 1)
-    time.sleep(4.5)
-    check("after the time it is put again", serve.ask("PUT", "/books/_doc/6", one)[0] == 200 and len(written(server, "6")) == 2, written(server, "6"))
-    check("the stop after repeats", serve.stop()[0] == 0)
+
+def kept_for():
+    """How long an answer is kept."""
+    server = Server(delay=Gate())
+    serve = Serve(server, "--workers", "4", "--lanes", "1", "--remember", "1s")
+    left(serve, "PUT", "/books/_doc/1", ONE)
+    wait_until(lambda: written(server, "1"))
+    time.sleep(2)
+    check("after the time it is put again", serve.ask("PUT", "/books/_doc/1", ONE)[0] == 200 and len(written(server, "1")) == 2, written(server, "1"))
+    check("the stop after the time", serve.stop()[0] == 0)
 
     serve = Serve(server, "--workers", "4", "--lanes", "1", "--remember", "never", "--epoch", "1")
-    left(serve, "PUT", "/books/_doc/7", one)
-    ended(server, "7", 1)
-    check("nothing is kept if that is said", serve.ask("PUT", "/books/_doc/7", one)[0] == 200 and len(written(server, "7")) == 2, written(server, "7"))
+    left(serve, "PUT", "/books/_doc/2", ONE)
+    wait_until(lambda: written(server, "2"))
+    time.sleep(0.3)
+    check("nothing is kept if that is said", serve.ask("PUT", "/books/_doc/2", ONE)[0] == 200 and len(written(server, "2")) == 2, written(server, "2"))
     check("the stop without", serve.stop()[0] == 0)
     server.close()
 
 
 def filled():
-    """Once answers that are kept leave little room for more, the next term begins, and nothing is kept in it."""
-    server = Server(delay=lambda: 0.3)
+    """Once answers that were kept leave little room for more, the next term begins, if this one has lasted for as long as one is kept."""
+    server = Server(delay=Gate())
     # An eighth of this is for what is kept.
-    serve = Serve(server, "--workers", "4", "--lanes", "1", "--epoch", "1", "--max-open-bytes", "1048576")
-    long, other = b'{"text":"%s"}' % (b"x" * 70_000), b"{}"
-    left(serve, "PUT", "/books/_doc/1", long)
-    ended(server, "1", 1)
-    check("what is kept is used", serve.ask("PUT", "/books/_doc/1", long)[0] == 201 and len(written(server, "1")) == 1, len(written(server, "1")))
-    check("a request after that ends the term", serve.ask("PUT", "/books/_doc/2", other)[0] == 201)
+    serve = Serve(server, "--workers", "4", "--lanes", "1", "--epoch", "1", "--max-open-bytes", "1048576", "--remember", "20s")
+    begun = time.monotonic()
+    long = b'{"text":"%s"}' % (b"x" * 70_000)
+    leaves_one(serve, "PUT", "/books/_doc/1", long)
+    check("what is kept is given", serve.ask("PUT", "/books/_doc/1", long)[0] == 201 and len(written(server, "1")) == 1, len(written(server, "1")))
+    serve.ask("PUT", "/books/_doc/2", b"{}")
+    if time.monotonic() - begun < 15:
+        check("the term goes on", metrics_of(serve)["relay_terms_total"] == 1, metrics_of(serve))
+    time.sleep(max(0, begun + 21 - time.monotonic()))
+    check("a request after that ends the term", serve.ask("PUT", "/books/_doc/2", b"{}")[0] == 200)
     wait_until(lambda: metrics_of(serve)["relay_terms_total"] == 2)
     check("the next term has begun", metrics_of(serve)["relay_terms_total"] == 2, metrics_of(serve))
-    check("and does not know it", serve.ask("PUT", "/books/_doc/1", long)[0] == 200 and len(written(server, "1")) == 2, len(written(server, "1")))
+    check("and has kept nothing", metrics_of(serve)["relay_kept_bytes"] == 0 and serve.ask("PUT", "/books/_doc/1", long)[0] == 200 and len(written(server, "1")) == 2, len(written(server, "1")))
     check("the stop after two terms", serve.stop()[0] == 0)
     server.close()
 
 
 def late_repeats():
-    """An answer that says that a write was late is not kept."""
-    slow = [1.0]
-    server = Server(delay=lambda: slow[0])
-    serve = Serve(server, "--workers", "4", "--lanes", "1", "--answer-within", "300ms")
+    """An answer that says that a write was late is not kept, and the time of a request is that of its waiting, too."""
+    gate = Gate()
+    server = Server(delay=gate)
+    serve = Serve(server, "--workers", "4", "--lanes", "1", "--answer-within", "2s")
+    gate.is_open.clear()
     left(serve, "PUT", "/books/_doc/1", b"{}")
-    wait_until(lambda: written(server, "1"))
-    slow[0] = 0.0
-    wait_until(lambda: serve.ask("PUT", "/books/_doc/2", b"{}")[0] in (200, 201))
-    check("what was late is put again", serve.ask("PUT", "/books/_doc/1", b"{}")[0] == 200 and len(written(server, "1")) == 2, written(server, "1"))
+    wait_until(lambda: gate.requests == 1)
+    time.sleep(0.2)
+    begun = time.monotonic()
+    status, value = serve.ask("PUT", "/books/_doc/1", b"{}")
+    check("one that waits for the first is answered in time", status == 503 and value["error"]["type"] == "relay_timeout" and time.monotonic() - begun < 3.5, (value, time.monotonic() - begun))
+    gate.is_open.set()
+    wait_until(lambda: len(written(server, "1")) == 2)
+    check("what was late is put again", serve.ask("PUT", "/books/_doc/1", b"{}")[0] == 200 and len(written(server, "1")) == 3, written(server, "1"))
     check("the stop after a late one", serve.stop()[0] == 0)
     server.close()
 
 
-GROUPS = (documents, bulk, refusals_by_item, refusals_of_requests, faces, framing, broken, faults, killed, epochs, terms, late, turns, stops, down, watched, repeats, filled, late_repeats)
+GROUPS = (documents, bulk, refusals_by_item, refusals_of_requests, faces, framing, broken, faults, killed, epochs, terms, late, turns, stops, down, watched, repeats, repeats_of_many, kept_for, filled, late_repeats)

@@ -15,10 +15,10 @@ use std::{env, io};
 
 const ABOUT: &str = "Delivers write operations from producers to an OpenSearch index.
 
-It writes files of operations to an index, each operation once and in order; turns the operations of
-one producer into the lines of a bulk request, with versions; serves bulk requests with a stand-in
-index, over standard input or HTTP; and simulates what may happen between producers, lanes and an
-index.";
+It writes files of operations to an index, where each is applied at most once, in order, or reported;
+stands between services and an index; turns the operations of one producer into the lines of a bulk
+request, with versions; serves bulk requests with a stand-in index, over standard input or HTTP; and
+simulates what may happen between producers, lanes and an index.";
 
 /// Runs what the command line of the process asks for.
 pub fn execute<R>(rt: &R, host: HostRuntime) -> Exit

@@ -90,6 +90,19 @@ impl Asked {
         })
     }
 
+    /// One more of it, with a body of its own: that of a request may be part of a larger block, which it
+    /// keeps. `AllocError`: allocation failed.
+    pub fn apart(&self, alloc: Global) -> Result<Asked, AllocError>
+        ensures { IfOk result (λ a. a ≡ self.now) }
+    {
+        Ok(Asked {
+            method: String::from_str(alloc, self.method.as_str())?,
+            path: String::from_str(alloc, self.path.as_str())?,
+            query: own(alloc, self.query.as_deref())?,
+            body: Bytes::copy_from_slice(alloc, self.body.as_slice())?,
+        })
+    }
+
     /// Whether the request asks for this, byte for byte.
     pub fn is_asked_by(&self, request: &Request<Bytes>) -> bool
         ensures { IsTrue result → self.now ≡ asking request.now }

@@ -133,8 +133,8 @@ impl<'a, S: Settle, I: Ids> Front<'a, S, I> {
         ensures { IsReply 200 up (reply_of result)
             ⊎ ((reason : List ℕ) × IsReply 503 (down reason) (reply_of result)) }
     {
-        match self.relay.trouble() {
-            Some(reason) => self.down(reason),
+        match self.relay.trouble(self.alloc)? {
+            Some(reason) => self.down(reason.as_str()),
             None => self.text(UP),
         }
     }

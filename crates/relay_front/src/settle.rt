@@ -36,8 +36,8 @@ pub trait Settle {
     /// Whether the relay takes no further request.
     fn is_ending(&self) -> bool;
 
-    /// Why no writes can be settled now, if so, as an operator is told.
-    fn trouble(&self) -> Option<&'static str>;
+    /// Why no writes can be settled now, if so, as an operator is told. `AllocError`: allocation failed.
+    fn trouble(&self, alloc: Global) -> Result<Option<String>, AllocError>;
 
     /// What the relay counts, in the text format of Prometheus. `AllocError`: allocation failed.
     fn metrics(&self, alloc: Global) -> Result<Vec<u8>, AllocError>;

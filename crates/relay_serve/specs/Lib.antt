@@ -4,7 +4,6 @@ pub mod Batches
 pub mod Putting
 pub mod Serving
 pub mod Remembering
-pub mod Known
 pub mod Answering
 pub mod Meeting
 pub mod Acknowledged

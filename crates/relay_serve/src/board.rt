@@ -9,7 +9,7 @@ use std::alloc::{AllocError, Global};
 use std::net::SocketAddr;
 use std::sync::Arc;
 use std::sync::atomic::{AtomicU64, Ordering};
-use std::time::Instant;
+use std::time::{Clock, Instant};
 
 // How many operations of a term may be reported before the next one begins: lanes keep reports until
 // their term ends.
@@ -62,6 +62,10 @@ pub struct Board {
     pub(crate) counts: Counts,
     /// What the wires count.
     pub(crate) index: relay_progress::Shared,
+    // Since when the index has been seen to be down, as `since`, and how many requests it had answered
+    // then.
+    down: AtomicU64,
+    answered: AtomicU64,
 }
 
 /// The board of a server.
@@ -149,6 +153,8 @@ impl Board {
                 reported: AtomicU64::new(0),
                 counts,
                 index,
+                down: AtomicU64::new(0),
+                answered: AtomicU64::new(0),
             },
         )?)
     }
@@ -169,13 +175,13 @@ impl Board {
 
     /// Has the term end if it is due: so many of its operations have ended, or may be reported, or there
     /// is little room for more answers to keep. The last term goes on while connections are open.
-    pub(crate) fn turn_if_due(&self) {
+    pub(crate) fn turn_if_due<R: Clock>(&self, rt: &R) {
         let ends = self.counts.ends();
         let ended = ends.all().saturating_sub(self.ended.load(Ordering::SeqCst));
         let reported = ends
             .reports()
             .saturating_sub(self.reported.load(Ordering::SeqCst));
-        let is_full = reported >= REPORTS || self.memory.is_filled();
+        let is_full = reported >= REPORTS || self.memory.is_filled(rt);
         let is_due = ended >= self.longest || is_full;
         if is_due && !self.is_ending() {
             self.turning.store(1, Ordering::SeqCst);
@@ -324,19 +330,50 @@ impl Board {
         self.index.sight(0).is_down
     }
 
-    /// Why no writes can be settled now, if so.
-    pub fn trouble(&self) -> Option<&'static str> {
+    // For how many milliseconds the index has been down without a break each time that somebody looked,
+    // this time, too. `None`: it is not down.
+    fn down_for(&self, now: Option<Instant>) -> Option<u64> {
+        if !self.is_down() {
+            self.down.store(0, Ordering::SeqCst);
+            return None;
+        }
+        let moment = self.moment(now).unwrap_or(0).saturating_add(1);
+        let answers = self.index.answers();
+        let since = self.down.load(Ordering::SeqCst);
+        if since == 0 || self.answered.swap(answers, Ordering::SeqCst) != answers {
+            self.answered.store(answers, Ordering::SeqCst);
+            self.down.store(moment, Ordering::SeqCst);
+            return Some(0);
+        }
+        Some(moment.saturating_sub(since))
+    }
+
+    /// Why no writes can be settled now, if so: of an index that is down, for how many seconds it has been
+    /// seen so. `AllocError`: allocation failed.
+    pub(crate) fn trouble(
+        &self,
+        alloc: Global,
+        now: Option<Instant>,
+    ) -> Result<Option<String>, AllocError> {
         if self.has_failed() {
-            return Some("a lane has ended");
+            return Ok(Some(String::from_str(alloc, "a lane has ended")?));
         }
         if self.is_ending() {
-            return Some("the relay is stopping");
+            return Ok(Some(String::from_str(alloc, "the relay is stopping")?));
         }
-        if self.is_down() {
-            return Some("the index does not answer");
+        match self.down_for(now) {
+            Some(millis) => Ok(Some(unanswered(alloc, millis / 1_000)?)),
+            None => Ok(None),
         }
-        None
     }
+}
+
+// The index is down, for so many seconds, or was not seen so before.
+fn unanswered(alloc: Global, seconds: u64) -> Result<String, AllocError> {
+    if seconds == 0 {
+        return String::from_str(alloc, "the index does not answer");
+    }
+    format!(in alloc; "the index has not answered for at least {seconds} s")
 }
 
 // So many numbers, which are 0.

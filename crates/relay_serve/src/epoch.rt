@@ -100,12 +100,26 @@ fn write_epoch(alloc: Global, file: &mut File, epoch: u32) -> Result<(), FileFau
     Ok(())
 }
 
+// Has the system keep the name of a file that may be new. Where directories cannot be synchronized, it is
+// as safe as the system keeps it.
+fn sync_name(host: &HostRuntime, path: &str) {
+    let folder = match path.rfind('/') {
+        Some(0) => "/",
+        Some(at) => path.get(..at).unwrap_or("."),
+        None => ".",
+    };
+    if let Ok(folder) = File::open(host, folder) {
+        let _ = folder.sync_all();
+    }
+}
+
 /// Opens the file of the epoch, and locks it until it is dropped. One that is absent is made, and is
 /// empty.
 pub fn open_epoch(host: &HostRuntime, path: &str) -> Result<File, FileFault> {
     let mut options = OpenOptions::new();
     options.read(true).write(true).create(true);
     let file = options.open(host, path).map_err(|_| FileFault::Device)?;
+    sync_name(host, path);
     match file.try_lock() {
         Ok(()) => Ok(file),
         Err(TryLockError::WouldBlock) => Err(FileFault::Locked),

@@ -142,7 +142,7 @@ fn add_open(text: &mut Vec<u8>, board: &Board, now: Option<Instant>) -> Result<(
         text,
         "relay_open_operations",
         "gauge",
-        "Operations that were put to each lane and, as far as workers have heard, have not ended.",
+        "The length of each lane's queue: operations that were put to it and, as far as workers have heard, have not ended.",
     )?;
     for lane in 0..8usize {
         if let Some(count) = board.open(lane) {
@@ -227,6 +227,32 @@ fn add_requests(text: &mut Vec<u8>, board: &Board) -> Result<(), AllocError> {
     )
 }
 
+// What is known of answers that are kept, and of those that were given again.
+fn add_repeats(text: &mut Vec<u8>, board: &Board) -> Result<(), AllocError> {
+    let memory = &board.memory;
+    add_single(
+        text,
+        "relay_requests_repeated_total",
+        "counter",
+        "Requests that were answered with the answer to an earlier one, whose client had left.",
+        memory.repeats(),
+    )?;
+    add_single(
+        text,
+        "relay_kept_answers",
+        "gauge",
+        "Answers that are kept, since their clients had left.",
+        memory.kept(),
+    )?;
+    add_single(
+        text,
+        "relay_kept_bytes",
+        "gauge",
+        "Bytes of all answers that were kept in this term, and of their requests.",
+        memory.held(),
+    )
+}
+
 /// The metrics at this moment. `AllocError`: allocation failed.
 pub(crate) fn metrics_text(
     alloc: Global,
@@ -255,6 +281,7 @@ pub(crate) fn metrics_text(
     )?;
     add_open(&mut text, board, now)?;
     add_requests(&mut text, board)?;
+    add_repeats(&mut text, board)?;
     add_single(
         &mut text,
         "relay_epoch",

@@ -43,7 +43,7 @@ impl<'a, R: Wait + Clock> Settle for Producing<'a, R> {
         self.settler.tally.shared.memory.look_after(&marks);
         self.marks = marks;
         self.settler.tally.shared.counts.add(&settled);
-        self.settler.tally.shared.turn_if_due();
+        self.settler.tally.shared.turn_if_due(self.rt);
         Ok(settled)
     }
 
@@ -51,8 +51,11 @@ impl<'a, R: Wait + Clock> Settle for Producing<'a, R> {
         self.settler.tally.shared.is_ending()
     }
 
-    fn trouble(&self) -> Option<&'static str> {
-        self.settler.tally.shared.trouble()
+    fn trouble(&self, alloc: Global) -> Result<Option<String>, AllocError> {
+        self.settler
+            .tally
+            .shared
+            .trouble(alloc, Instant::now(self.rt).ok())
     }
 
     fn metrics(&self, alloc: Global) -> Result<Vec<u8>, AllocError> {

@@ -6,7 +6,8 @@ ghost use Rattle.relay_front.specs.Again.{asking};
 ghost use Rattle.relay_serve.specs.Remembering.{AnswersAgain, AnswersItself, entry_of};
 
 use crate::entry::{Entry, Spoken, text_of};
-use crate::memory::{LIMIT, LONG, Memory};
+use crate::marks::Marks;
+use crate::memory::{Kept, LIMIT, LONG, Memory};
 use crate::producing::WorkerFront;
 use crate::timing::Timer;
 use bytes::{Buf, Bytes};
@@ -19,7 +20,8 @@ use std::sync::Wait;
 use std::sync::atomic::{AtomicU64, Ordering};
 use std::time::{Clock, Instant};
 
-// What becomes of an answer that is offered: nothing is known yet, it is kept, or it was sent.
+// What becomes of an answer that is offered, or was given again: nothing is known yet, it is kept, or it was
+// sent.
 const OPEN: u64 = 0;
 
 const KEPT: u64 = 1;
@@ -30,7 +32,8 @@ const SENT: u64 = 2;
 ///
 /// The answer to a request that took long, and of which each write was applied, is offered to the
 /// memory: it is the last of what was given, until the next request, and is taken back then unless the
-/// client had left.
+/// client had left. An answer that the memory has is given once, so that each that is given again stands
+/// for one whose client had left: it is kept again only if this client has left, too.
 #[derive(Drop)]
 pub(crate) struct Remembering<'a, R: Wait + Clock> {
     pub(crate) front: WorkerFront<'a, R>,
@@ -39,6 +42,10 @@ pub(crate) struct Remembering<'a, R: Wait + Clock> {
     offered: Option<u64>,
     // What became of it: `OPEN`, `KEPT` or `SENT`.
     fate: AtomicU64,
+    // The marks of the answer that was given again last, which is the last of those, and for how long it
+    // may be kept. `None`: the last answer was the front's. And what became of it.
+    lent: Option<(Marks, Timer)>,
+    lent_fate: AtomicU64,
 }
 
 impl<'a, R: Wait + Clock> Remembering<'a, R> {
@@ -55,6 +62,8 @@ impl<'a, R: Wait + Clock> Remembering<'a, R> {
             spoken,
             offered: None,
             fate: AtomicU64::new(OPEN),
+            lent: None,
+            lent_fate: AtomicU64::new(OPEN),
         }
     }
 
@@ -62,39 +71,56 @@ impl<'a, R: Wait + Clock> Remembering<'a, R> {
         &self.front.relay.settler.tally.shared.memory
     }
 
-    // The answer to what the request asks for, if the memory has it and there is room to note it.
-    fn recall(&self, request: &Request<Bytes>) -> Option<Entry>
-        ensures asked { IfSome result (λ e. e.asked ≡ asking request.now) }
+    // Takes the answer to what the request asks for out of the memory, if it has one and there is room to
+    // note it. The time that the request waits for it is that of its writes, too.
+    fn recall(&self, request: &Request<Bytes>) -> Option<Kept>
+        ensures asked { IfSome result (λ k. k.entry.asked ≡ asking request.now) }
         ensures room { IfSome result (λ _.
             vec_len self.now.spoken.repeated < vec_capacity self.now.spoken.repeated) }
     {
         let count = self.spoken.repeated.len();
+        if count >= LIMIT {
+            self.memory().fill();
+        }
         if count >= LIMIT || count >= self.spoken.repeated.capacity() {
             return None;
         }
         let relay = &self.front.relay;
-        self.memory()
-            .recall(relay.rt, request, relay.settler.within)
+        let within = relay.settler.within / 2;
+        let (kept, waited) = self.memory().recall(relay.rt, request, within);
+        relay.settler.waited.store(waited, Ordering::SeqCst);
+        kept
     }
 
-    // Answers with what the memory has.
+    // Answers with what the memory had.
     fn answer_again(
         &mut self,
-        entry: Entry,
+        kept: Kept,
         request: &Request<Bytes>,
         response: &mut Response,
     ) -> Result<(), AllocError>
         requires blank { IsBlank response.old }
-        requires asked { entry.asked ≡ asking request.now }
+        requires asked { kept.entry.asked ≡ asking request.now }
         requires room { vec_len self.old.spoken.repeated < vec_capacity self.old.spoken.repeated }
         ensures ok { OnOk result (AnswersAgain self.old.front self.old.spoken request.now response.new
             self.new.front self.new.spoken) }
         ensures err { OnErr result (self.new ≡ self.old) }
     {
-        self.front
-            .repeat(request, entry.status, &entry.text, response)?;
+        let Entry { status, text, .. } = &kept.entry;
+        if let Err(fault) = self.front.repeat(request, *status, text, response) {
+            self.memory().put_back(self.front.relay.rt, kept);
+            return Err(fault);
+        }
+        let Kept {
+            entry,
+            marks,
+            timer,
+        } = kept;
         self.spoken.repeated.push_reserved(entry);
         let _ = self.spoken.repeated.reserve(1);
+        self.lent = Some((marks, timer));
+        self.lent_fate.store(OPEN, Ordering::SeqCst);
+        self.memory().add_repeat();
         Ok(())
     }
 
@@ -110,6 +136,7 @@ impl<'a, R: Wait + Clock> Remembering<'a, R> {
         let Ok(Some(asked)) = Asked::of(self.front.alloc, request) else {
             return None;
         };
+        let asked = asked.apart(self.front.alloc).ok()?;
         let text = text_of(self.front.alloc, response)?;
         Some(Entry {
             asked,
@@ -174,11 +201,49 @@ impl<'a, R: Wait + Clock> Remembering<'a, R> {
         self.front.call(request, response)?;
         let has_settled = self.front.relay.marks.number != before;
         let _ = self.spoken.repeated.reserve(1);
+        self.lent = None;
         self.withdraw();
         if has_settled && timer.left(self.front.relay.rt).is_zero() {
             self.offer(request, response);
         }
         Ok(())
+    }
+
+    // Whether an answer is offered, and it is not known what becomes of it.
+    fn is_offered(&self) -> bool {
+        self.offered.is_some() && self.fate.load(Ordering::SeqCst) == OPEN
+    }
+
+    // Whether the last answer was given again, and it is not known what becomes of it.
+    fn is_lent(&self) -> bool {
+        self.lent.is_some() && self.lent_fate.load(Ordering::SeqCst) == OPEN
+    }
+
+    // Keeps the answer that is offered.
+    fn keep_first(&self) {
+        let relay = &self.front.relay;
+        if let Some(entry) = self.spoken.given.last() {
+            if self.memory().keep(relay.rt, entry, &relay.marks) {
+                self.fate.store(KEPT, Ordering::SeqCst);
+            }
+        }
+    }
+
+    // Keeps the answer that was given again.
+    fn keep_again(&self) {
+        let alloc = self.front.alloc;
+        if let (Some((marks, timer)), Some(entry)) = (&self.lent, self.spoken.repeated.last()) {
+            if let (Ok(entry), Ok(marks)) = (entry.share(alloc), marks.copy(alloc)) {
+                let timer = *timer;
+                let kept = Kept {
+                    entry,
+                    marks,
+                    timer,
+                };
+                self.memory().put_back(self.front.relay.rt, kept);
+            }
+        }
+        self.lent_fate.store(KEPT, Ordering::SeqCst);
     }
 
     // It is no longer noted what is answered.
@@ -209,8 +274,8 @@ impl<'a, R: Wait + Clock> Service for Remembering<'a, R> {
         response: &mut Response,
     ) -> Result<(), AllocError> {
         self.rest();
-        if let Some(entry) = self.recall(request) {
-            return self.answer_again(entry, request, response);
+        if let Some(kept) = self.recall(request) {
+            return self.answer_again(kept, request, response);
         }
         let relay = &self.front.relay;
         let is_noted = self
@@ -226,21 +291,21 @@ impl<'a, R: Wait + Clock> Service for Remembering<'a, R> {
 
 impl<'a, R: Wait + Clock> KeepsAnswers for Remembering<'a, R> {
     fn may_keep(&self) -> bool {
-        self.offered.is_some() && self.fate.load(Ordering::SeqCst) == OPEN
+        self.is_offered() || self.is_lent()
     }
 
     fn keep(&self) {
-        let relay = &self.front.relay;
-        if let Some(entry) = self.spoken.given.last() {
-            if self.memory().keep(relay.rt, entry, &relay.marks) {
-                self.fate.store(KEPT, Ordering::SeqCst);
-            }
+        if self.is_lent() {
+            self.keep_again();
+        } else {
+            self.keep_first();
         }
         self.end();
     }
 
     fn let_go(&self) {
         self.fate.store(SENT, Ordering::SeqCst);
+        self.lent_fate.store(SENT, Ordering::SeqCst);
         self.end();
     }
 }

@@ -18,6 +18,7 @@ use relay_receipts::{Gone, Notice, ReceiptTake, WindowFault, WindowFaultKind, Wi
 use relay_telling::Ending;
 use std::alloc::{AllocError, Global};
 use std::sync::Wait;
+use std::sync::atomic::{AtomicU64, Ordering};
 use std::thread;
 use std::time::{Clock, Duration, Instant};
 
@@ -39,6 +40,8 @@ pub(crate) struct Settler {
     pub(crate) tally: Tally,
     /// How long a request may take, in milliseconds.
     pub(crate) within: u64,
+    /// For how many milliseconds the next one has waited already.
+    pub(crate) waited: AtomicU64,
 }
 
 // What became of a write.
@@ -289,7 +292,9 @@ impl Settler {
         };
         let timer = Timer {
             start: Instant::now(rt).ok(),
-            within: self.within,
+            within: self
+                .within
+                .saturating_sub(self.waited.load(Ordering::SeqCst)),
         };
         let others = self.put_all(rt, &mut batch, writes, &timer);
         self.hear_all(rt, &mut batch, &timer);
@@ -311,6 +316,7 @@ impl Settler {
             producer,
             tally: _,
             within: _,
+            waited: _,
         } = self;
         producer.close(rt)
     }

@@ -26,6 +26,7 @@ use std::fs::File;
 use std::random::RandomSource;
 use std::snapshot::Snapshot;
 use std::sync::Wait;
+use std::sync::atomic::AtomicU64;
 use std::thread;
 use std::thread::{Promise, PromisedHandle, Threads};
 use std::time::Clock;
@@ -163,6 +164,7 @@ fn make_worker(
             producer,
             tally: Tally::new(board),
             within: options.within,
+            waited: AtomicU64::new(0),
         },
         making: Making {
             alloc,

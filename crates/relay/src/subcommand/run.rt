@@ -25,9 +25,11 @@ use std::sync::Wait;
 use std::thread::Threads;
 use std::time::Clock;
 
-const ABOUT: &str = "Writes files of operations to an index, each operation once and in order";
+const ABOUT: &str =
+    "Writes files of operations to an index: each is applied at most once, in order, or reported";
 
-const LONG_ABOUT: &str = "Writes files of operations to an index, each operation once and in order.
+const LONG_ABOUT: &str =
+    "Writes files of operations to an index: each is applied at most once, in order, or reported.
 
 Each FILE has operations in the form of the OpenSearch bulk API (see `relay help lines`), and is read by its
 own producer; a named pipe is opened by it too, so one without a writer holds up no other. An operation goes to the lane of its document, is assigned the lane's next external version, and
@@ -102,7 +104,7 @@ With --until FILE a run also takes no more input once FILE is there, even while 
 left as it is: `stopped: --until; not all was settled`, and the exit status is 3.
 
 While the index is down, each request that cannot be sent is an attempt, and so is each that is not answered
-within --timeout. Between the attempts of an operation its lane pauses for 1, 2, 4, 8, 16, 32 and 64
+within --timeout. Between its attempts an operation waits for 1, 2, 4, 8, 16, 32 and 64
 ticks of 100 ms: 12.7 s in all with the default of 8 attempts, and 166 s with 32, at most 64 ticks each, plus
 the time that connecting takes. Then it is reported. With --give-up-after DURATION, in place of --attempts, an
 operation is sent again until so long has passed since it was first sent, and with --give-up-after never
@@ -117,10 +119,10 @@ answered. Reports are kept in memory until the end: a run that is killed prints 
 
 Versions are the epoch times 2^40 plus a count from 1 in each lane. Every version that the index has stored for
 these documents must be at most the epoch times 2^40, so each run over the same documents needs an epoch above
-those of all earlier runs; otherwise its writes are reported as conflicts. Nobody else may write these documents
-during the run. With --epoch-from INDEX/ID the index provides the epoch: before anything else is sent, the run
-writes this document by PUT /INDEX/_doc/ID, and its epoch is the version that the index gives it, one more than
-the last one. So a run that is repeated, on whatever machine, needs nothing typed. Only the relay may write that
+those of all earlier runs; otherwise writes of documents that a later epoch has written are reported as conflicts, if
+the index states the stored version, as OpenSearch does. Nobody else may write these documents during the run.
+With --epoch-from INDEX/ID the index provides the epoch: before anything else is sent, the run writes this
+document by PUT /INDEX/_doc/ID, and its epoch is the version that the index gives it, one more than the last one. So a run that is repeated, on whatever machine, needs nothing typed. Only the relay may write that
 document, and nobody may delete it. If there is no epoch, nothing is sent, standard error gets one of these
 lines, and the exit status is 3:
 

@@ -26,10 +26,10 @@ use std::thread::Threads;
 use std::time::Clock;
 
 const ABOUT: &str =
-    "Takes the writes of OpenSearch's clients, and writes each to an index once and in order";
+    "Takes the writes of OpenSearch's clients, and applies each to an index at most once, and in order";
 
 const LONG_ABOUT: &str =
-    "Takes the writes of OpenSearch's clients, and writes each to an index once and in order.
+    "Takes the writes of OpenSearch's clients, and applies each to an index at most once, and in order.
 
 It listens at ADDR, or at several, and answers requests of the bulk API and for single documents as an index does, over HTTP/1.1
 without TLS. Each operation goes to the lane of its document, is assigned a version, and is sent in the lane's
@@ -63,9 +63,11 @@ versions nor memory run out.
 The bytes of requests that were read and not yet answered, beyond the first 16 KiB of each, are at most --max-open-bytes, and one
 more request. What does not fit waits, for as long as ,wait=DURATION behind its listener's ADDR says, and is then refused with 429.
 
-A client that leaves before its answer was sent, and sends the very same request again within --remember, gets the answer
-to the first one, if each of its writes was applied and no other request has put one of its documents since. So what is
-sent again after a time limit is not written twice.
+Most clients send a request again after a time limit. If a client left before its answer was sent, the answer is kept for
+--remember, and the next request that is the same, byte for byte, gets it, or waits for it: so what is sent again is not
+written twice. An answer is given once. It is kept only if the request took 100 ms or longer and each of its writes was applied,
+until another request puts one of the documents, and as long as there is room: an eighth of --max-open-bytes, and 1024 answers, in
+one term.
 
 The end of standard input stops it, and so does `POST /_relay/stop` to a loopback address: it takes nothing more, answers
 what it has, and ends. Standard error gets `listening on ADDR, epoch N` at the start for each ADDR, and what --log says, and standard
@@ -101,7 +103,7 @@ const LOG: TextOption = TextOption {
 const REMEMBER: TextOption = TextOption {
     name: "remember",
     value: "DURATION",
-    help: "How long to keep the answer to a request whose client left before it was sent, so that the same request, sent again, gets it, 1ms to 168h; a bare number counts milliseconds. never: not at all",
+    help: "How long to keep the answer to a request whose client left before it was sent, for the next one that is the same, 1ms to 168h; a bare number counts milliseconds. never: not at all",
 };
 
 const INDEX: TextOption = TextOption {
