@@ -29,15 +29,18 @@ edits:
 test:
 	@echo "following the pointers of the tables of rules"
 	python3 tests/pointers.py
+	@echo "following the paths, links and options of README.md and docs"
+	python3 tests/documents.py
 	@echo "testing the script that tries edits"
 	python3 tests/edits_test.py
 	@echo "running the gate; this takes a long time, and reports its progress every minute"
 	python3 tests/gate.py
 	@echo "passing what relay_http writes to Python's HTTP client and server"
 	@python3 tests/http_fixtures.py > /dev/null
-	@echo "running the end-to-end tests of the benchmark's tool, of the example and of the program"
+	@echo "running the end-to-end tests of the benchmark's tool, of the example, of what the documents show and of the program"
 	python3 tests/bench_tool.py crates/relay_bench/out/relay_bench
 	python3 tests/example_program.py crates/relay_example/out/relay_example
+	python3 tests/documents.py crates/relay/out/relay
 	python3 tests/suites.py crates/relay/out/relay
 
 # Tests that the gate built, with each of their allocations refused in turn, and runs of the program with many refused.

@@ -1,6 +1,7 @@
 """Shows the program's commands on the files of this folder. `make demo` runs `python3 examples/demo.py` at the top.
 
-The program is built without proof and with run-time checks, which takes only minutes; `make build` proves it.
+The program is built without proof and with run-time checks, which takes only minutes; `make build` proves it. `python3 examples/demo.py
+PROGRAM` shows the commands of one that is built.
 """
 import importlib
 import os
@@ -85,15 +86,23 @@ def serve(program, port, own):
     return applied(served) and all(answers)
 
 
+def show_all(program):
+    """Shows all commands. Returns whether each printed something."""
+    shown = [streams(program), run(program, 19200), serve(program, 19201, 19300)]
+    return all(shown)
+
+
 def main():
+    if sys.argv[1:]:
+        sys.exit(not show_all(os.path.abspath(sys.argv[1])))
     print("building the program without proof, with run-time checks (`make build` proves it); this takes two to four minutes", flush=True)
     with tempfile.TemporaryDirectory() as folder:
         program = os.path.join(folder, "relay")
         copied, _, said = build(program)
         if not copied:
             sys.exit(said)
-        shown = [streams(program), run(program, 19200), serve(program, 19201, 19300)]
-    sys.exit(0 if all(shown) else 1)
+        shown = show_all(program)
+    sys.exit(not shown)
 
 
 main()
