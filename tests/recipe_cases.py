@@ -1,5 +1,6 @@
-"""`relay serve` as OPERATING sets it up: behind nginx with TLS, shared out by nginx over several relays, behind a stream of Redis, and
-watched by Prometheus. The configurations are those of examples/serve. What is not installed is skipped, with a message."""
+"""`relay serve` as OPERATING sets it up: behind nginx with TLS, in front of one with TLS and credentials, shared out by nginx over several
+relays, behind a stream of Redis, and watched by Prometheus. The configurations are those of examples/serve and examples/proxies. What is
+not installed is skipped, with a message."""
 import http.client
 import json
 import os
@@ -15,8 +16,9 @@ import urllib.request
 import zlib
 
 from bulk_server import Server
+from epoch_cases import CounterServer
 from program import RELAY, SECONDS, check, skip
-from proxy_cases import TOP, Proxy, certificate
+from proxy_cases import CREDENTIAL, TOP, Proxy, TlsServer, certificate
 from run_cases import FAULTS
 from serve_cases import Serve, body_of
 from stub_cases import free_port
@@ -46,36 +48,72 @@ class Front(Proxy):
         self.begin("nginx", "serve/" + name, folder, own, replaced)
 
 
+def in_turn(faults):
+    """A plan with each of these faults in turn, on a third of the requests."""
+    return lambda number: faults[number % len(faults)] if number % 3 == 0 else None
+
+
+def told_by(connect):
+    """Has six clients write in bulk, each on a connection of its own. Returns what they were told is written of each document, in order."""
+    told = {}
+
+    def client(number):
+        connection = connect()
+        for turn in range(20):
+            operations = [("%d-%d" % (number, it), '{"n":%d}' % turn) for it in range(3)]
+            connection.request("POST", "/_bulk", body_of(operations), {"Content-Type": "application/x-ndjson"})
+            answer = connection.getresponse()
+            value = json.loads(answer.read())
+            if answer.status == 200 and not value["errors"]:
+                for identity, source in operations:
+                    told.setdefault(identity, []).append(source)
+        connection.close()
+
+    together([lambda number=number: client(number) for number in range(6)])
+    return told
+
+
+def judge(name, server, told):
+    """What the clients were told is what was applied."""
+    found = {identity: [row[2] for row in server.index.applied.get(("books", identity), [])] for identity in told}
+    wrong = [it for it in told if found[it] != told[it]]
+    check("%s, what was told is what was applied, in order" % name, len(told) == 18 and not wrong, wrong[:3])
+
+
 def behind_tls():
-    """A client over TLS: what it is told is what was applied, through nginx on both sides."""
+    """Clients over TLS, through nginx in front of the relay: what they are told is what was applied."""
     if lacks("relay serve behind nginx", nginx="nginx-light", openssl="openssl"):
         return
     with tempfile.TemporaryDirectory() as folder:
         key, chain = certificate(folder)
-        server = Server(plan=lambda number: FAULTS[number % len(FAULTS)] if number % 3 == 0 else None)
-        serve = Serve(server, "--workers", "8", "--lanes", "2")
-        front = Front("tls.conf", folder, "127.0.0.1:9343", {"127.0.0.1:9300": "127.0.0.1:%s" % serve.port, "/etc/relay/chain.pem": chain, "/etc/relay/key.pem": key})
+        server = Server(plan=in_turn(FAULTS))
+        serve = Serve(server, "--workers", "8", "--lanes", "2", "--attempts", "32")
+        replaced = {"127.0.0.1:9300": "127.0.0.1:%s" % serve.port, "/etc/relay/chain.pem": chain, "/etc/relay/key.pem": key}
+        front = Front("tls.conf", folder, "127.0.0.1:9343", replaced)
         context = ssl.create_default_context(cafile=chain)
         context.check_hostname = False
-        told = {}
-
-        def client(number):
-            connection = http.client.HTTPSConnection("127.0.0.1", front.port, timeout=60, context=context)
-            for turn in range(20):
-                operations = [("%d-%d" % (number, it), '{"n":%d}' % turn) for it in range(3)]
-                connection.request("POST", "/_bulk", body_of(operations), {"Content-Type": "application/x-ndjson"})
-                answer = connection.getresponse()
-                value = json.loads(answer.read())
-                if answer.status == 200 and not value["errors"]:
-                    for identity, source in operations:
-                        told.setdefault(identity, []).append(source)
-            connection.close()
-
-        together([lambda number=number: client(number) for number in range(6)])
-        found = {identity: [row[2] for row in server.index.applied[("books", identity)]] for identity in told}
-        check("through TLS, what was told is what was applied, in order", len(told) == 18 and found == told, [it for it in told if found[it] != told[it]][:3])
+        told = told_by(lambda: http.client.HTTPSConnection("127.0.0.1", front.port, timeout=60, context=context))
+        judge("through TLS", server, told)
         front.close()
         check("the stop behind TLS", serve.stop()[0] == 0)
+        server.close()
+
+
+def before_tls():
+    """An index over TLS, to which nginx adds the credentials: what the clients are told is what was applied, and each request has them."""
+    if lacks("relay serve in front of nginx", nginx="nginx-light", openssl="openssl"):
+        return
+    with tempfile.TemporaryDirectory() as folder:
+        key, chain = certificate(folder)
+        # nginx takes an interim answer that it did not ask for as the whole one.
+        server = TlsServer(key, chain, plan=in_turn([it for it in FAULTS if it != "interim"]))
+        proxy = Proxy("nginx", folder, server, chain)
+        serve = Serve(proxy, "--workers", "8", "--lanes", "2", "--attempts", "32")
+        judge("in front of TLS", server, told_by(serve.connect))
+        right = server.heads and all(CREDENTIAL.lower() in it.lower() for it in server.heads)
+        check("in front of TLS, each request has the credential", right, server.heads[:1])
+        check("the stop in front of TLS", serve.stop()[0] == 0)
+        proxy.close()
         server.close()
 
 
@@ -88,11 +126,14 @@ def together(calls):
 
 
 def shared(by, share):
-    """Two relays, each in an epoch of its own, before one index: each share's writes come from one of them, in order. `share` gives the
-    share of a document."""
+    """Two relays, each with a counter of its own for its epoch, before one index: each share's writes come from one of them, in order.
+    `share` gives the share of a document."""
     with tempfile.TemporaryDirectory() as folder:
-        server, wrong = Server(), []
-        relays = [Serve(server, "--workers", "8", "--lanes", "2", "--epoch", "%d" % (number + 1)) for number in range(2)]
+        server, wrong = CounterServer(), []
+        # The second one was started once before, so the versions say which of them wrote.
+        server.versions[b"/relay/_doc/epoch-1"] = 1
+        relays = [Serve(server, "--workers", "8", "--lanes", "2", "--epoch-from", "relay/epoch-%d" % number) for number in range(2)]
+        check("shared out by %s: each has its own epoch" % by, [relay.epoch() for relay in relays] == [1, 2], [it.begun for it in relays])
         ports = {"127.0.0.1:93%d0" % number: "127.0.0.1:%s" % relay.port for number, relay in enumerate(relays)}
         front = Front("shares.conf", folder, "127.0.0.1:9200", {**ports, "hash $share": by})
 
@@ -287,4 +328,4 @@ def read_by_prometheus():
         server.close()
 
 
-GROUPS = (behind_tls, several, queued, unit, read_by_prometheus)
+GROUPS = (behind_tls, before_tls, several, queued, unit, read_by_prometheus)

@@ -1,10 +1,11 @@
-"""Third-party clients of `relay serve`: what each believes of its writes is exactly what the index behind holds. They are
+"""Third-party clients of `relay serve`: what each believes of its writes is exactly what the index behind holds. They are curl, and
 Python's, Perl's, Ruby's and Go's, of the packages that Debian has; the tests of one that is not installed say so, and are skipped."""
 import json
 import os
 import random
 import shutil
 import subprocess
+import sys
 import tempfile
 
 from bulk_server import Server
@@ -107,6 +108,12 @@ def runs(*command):
     return shutil.which(command[0]) is not None and subprocess.run(command, capture_output=True).returncode == 0
 
 
+def curl_client():
+    if not runs("curl", "--version"):
+        return skip("curl against relay serve", "curl")
+    writes("curl", [sys.executable, os.path.join(HERE, "foreign_curl.py")], ("one_by_one", "whole", "chunked", "large"))
+
+
 def python_client():
     python = helpers()
     if python is None:
@@ -139,4 +146,4 @@ def go_client():
             writes("the Go client", [place], ("one_by_one", "whole", "processor"))
 
 
-GROUPS = (python_client, perl_client, ruby_client, go_client)
+GROUPS = (curl_client, python_client, perl_client, ruby_client, go_client)
