@@ -6,47 +6,125 @@ import subprocess
 import threading
 import time
 
-from bulk_server import Server
+from bulk_server import LOST, Server
 from program import FEWER, RELAY, SECONDS, check, leave
-from run_cases import FAULTS
+from reason_cases import EPOCH, server_with
+from run_cases import FAULTS, wait_until
 from serve_cases import Serve, body_of, is_refusal, judge, received
 
 PUT = b"PUT /books/_doc/%d HTTP/1.1\r\nHost: a\r\nContent-Length: 2\r\n\r\n{}"
 
 
-def each_fault():
-    """With each fault of the index alone, on two of five requests: each answer is true, and nothing but what it says was applied."""
+def three_clients(name, server, blanks=0, attempts=32):
+    """Three clients write, in bulk and one by one. Each answer is true: what it says is written was applied, in order and nothing else, and
+    the other writes have an error. Returns the statuses of these. What is written one by one has so many blanks more."""
+    serve = Serve(server, "--workers", "3", "--lanes", "2", "--count", "7", "--attempts", "%d" % attempts)
+    said, errors, lock = {}, [], threading.Lock()
+
+    def client(number):
+        own = random.Random(number)
+        for turn in range(5):
+            operations = [operation(own, number, turn * 10 + at) for at in range(own.randrange(1, 10))]
+            status, answer = serve.ask("POST", "/_bulk", body_of(operations))
+            source = '{"n":%d}' % turn + " " * blanks
+            new, text = serve.ask("POST", "/made/_doc", source.encode())
+            entries = [entry for it in answer["items"] for entry in it.values()]
+            wrong = [it["status"] for it in entries if "error" in it]
+            with lock:
+                judge("%s: the items" % name, server, operations, answer["items"])
+                check("%s: the status" % name, (status, answer["errors"]) == (200, bool(wrong)), (status, answer))
+                check("%s: the status of one" % name, (new == 201) != ("error" in text), (new, text))
+                for (identity, source_of), entry in zip(operations, entries):
+                    if "error" not in entry:
+                        said.setdefault(("books", identity), []).append(source_of)
+                if new == 201:
+                    said["made", text["_id"]] = [source]
+                errors.extend(wrong if new == 201 else [*wrong, new])
+
+    threads = [threading.Thread(target=client, args=(number,)) for number in range(3)]
+    for thread in threads:
+        thread.start()
+    for thread in threads:
+        thread.join()
+    found = {key: [row[2] for row in rows] for key, rows in server.index.applied.items()}
+    check("%s: what was applied, in order" % name, found == said, [it for it in {**found, **said} if found.get(it) != said.get(it)][:3])
+    status, out, err = serve.stop()
+    check("%s: the stop" % name, (status, err) == (0, b""), (status, out, err))
+    server.close()
+    return errors
+
+
+def operation(dice, client, number):
+    """A write of one of three documents of a client."""
+    return "%d-%d" % (client, dice.randrange(3)), None if dice.random() < 0.2 else '{"n":%d}' % number
+
+
+def often(*faults):
+    """A plan with one of these faults on the first request, and on two of five others."""
     dice = random.Random(3)
-    for fault in FAULTS:
-        server = Server(lambda number, fault=fault: fault if number == 1 or dice.random() < 0.4 else None)
-        serve = Serve(server, "--workers", "3", "--lanes", "2", "--count", "7", "--attempts", "32")
-        said, made, lock = {}, [], threading.Lock()
+    return lambda number: dice.choice(faults) if number == 1 or dice.random() < 0.4 else None
 
-        def client(number):
-            own = random.Random(number)
-            for turn in range(5):
-                operations = [("%d-%d" % (number, own.randrange(3)), None if own.random() < 0.2 else '{"n":%d}' % (turn * 10 + at)) for at in range(own.randrange(1, 10))]
-                status, answer = serve.ask("POST", "/_bulk", body_of(operations))
-                new, text = serve.ask("POST", "/made/_doc", b'{"n":%d}' % turn)
-                with lock:
-                    check("%s: the statuses" % fault, (status, answer["errors"], new) == (200, False, 201), (status, answer, new, text))
-                    judge("%s: the items" % fault, server, operations, answer["items"])
-                    made.append((text.get("_id"), '{"n":%d}' % turn))
-                    for identity, source in operations:
-                        said.setdefault(identity, []).append(source)
 
-        threads = [threading.Thread(target=client, args=(number,)) for number in range(3)]
-        for thread in threads:
-            thread.start()
-        for thread in threads:
-            thread.join()
-        rows = server.index.applied
-        wrong = [it for it in said if [row[2] for row in rows[("books", it)]] != said[it]]
-        wrong += [it for it, source in made if [row[2] for row in rows[("made", it)]] != [source]]
-        check("%s: what was applied, in order" % fault, not wrong and len(rows) == len(said) + len(made), wrong[:3])
-        status, out, err = serve.stop()
-        check("%s: the stop" % fault, (status, err) == (0, b""), (status, out, err))
-        server.close()
+def each_fault():
+    """With each fault of the index alone everything is applied, and said to be."""
+    for fault in (*FAULTS, 502, 504):
+        errors = three_clients(fault, Server(often(fault)))
+        check("%s: no errors" % fault, errors == [], errors)
+
+
+def refused_whole():
+    """A whole request that gets 500 is not sent again: that is the error of its writes."""
+    errors = three_clients("a whole 500", Server(often(500)))
+    check("a whole 500: the errors", set(errors) == {500}, errors)
+
+
+class Noting(Server):
+    """A server that notes the status of each message that it has sent."""
+
+    def __init__(self, *args, **more):
+        self.sent = []
+        super().__init__(*args, **more)
+
+    def write(self, stream, data):
+        done = Server.write(stream, data)
+        self.sent.append(int(data[9:12]))
+        return done
+
+
+def too_large():
+    """An index that takes one small document at a time: requests are halved, and a large document is refused. If the connection is closed
+    before a request was sent, the answer may be lost."""
+    for early in (None, "drains", "closes"):
+        name = "one document at a time, early: %s" % early
+        server = Noting(most=150, early=early)
+        errors = three_clients(name, server, blanks=100_000, attempts=4)
+        right = set(errors) <= {413, 503} and len(errors) >= 15 if early == "closes" else errors == [413] * 15
+        check("%s: the errors" % name, right, errors)
+        check("%s: others were too large at first" % name, server.sent.count(413) > 15, server.sent)
+
+
+def stated():
+    """An index that states the stored version in each conflict: a write of an earlier request is not taken for one of another writer."""
+    server = server_with({"%d-0" % client: 2 * EPOCH for client in range(3)}, plan=often(*LOST))
+    errors = three_clients("stated versions", server)
+    check("stated versions: the errors", set(errors) == {409}, errors)
+
+
+def answered_again():
+    """A reply that comes again before the next request is not taken for the reply to that, which goes by another connection. One that comes
+    again after that cannot be told from it, as PROMISES says."""
+    server = Noting(lambda number: "twice late")
+    serve = Serve(server, "--workers", "2", "--lanes", "1")
+    statuses, sources = [], ['{"n":%d}' % turn for turn in range(5)]
+    for turn, source in enumerate(sources):
+        statuses.append(serve.ask("PUT", "/books/_doc/1", source.encode())[0])
+        wait_until(lambda: len(server.sent) == 2 * turn + 2)
+    applied = [row[2] for row in server.index.applied["books", "1"]]
+    check("twice, late: what was applied", statuses == [201, 200, 200, 200, 200] and applied == sources, (statuses, applied))
+    check("twice, late: the stop", serve.stop()[0] == 0)
+    wait_until(lambda: len(server.strays) == 5)
+    check("twice, late: no request goes out where something came", server.strays == [b""] * 5, server.strays)
+    server.close()
 
 
 def answers_in(came):
@@ -203,4 +281,4 @@ def any_port():
         check("the stop at %s and any port" % host, process.wait(timeout=60) == 0 and process.stdout.read() == b"applied 0 already 0 reported 0\n")
 
 
-GROUPS = (each_fault, garbage, endless, large, unread, midway, any_port)
+GROUPS = (each_fault, refused_whole, too_large, stated, answered_again, garbage, endless, large, unread, midway, any_port)
