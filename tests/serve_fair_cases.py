@@ -67,15 +67,20 @@ def measured(serve, clients, turns, pause=0.0):
     return sorted(spent), statuses
 
 
+def ordinary():
+    """An index that takes 10 milliseconds for each request, so that times can be compared on a machine that does other things too."""
+    return Server(delay=lambda: 0.01)
+
+
 def at(spent, share):
     return spent[min(len(spent) - 1, int(len(spent) * share))]
 
 
 def beside(name, serve, alone, clients=4, turns=250):
-    """Clients that write beside others: the 99th percentile of their times is at most 20 milliseconds above 3 times that of clients that are
-    alone. A program with run-time checks, beside other tests, takes longer, and only has to serve them."""
+    """Clients that write beside others: the 99th percentile of their times is below 3 times that of clients that are alone. A program with
+    run-time checks, beside other tests, takes longer, and only has to serve them."""
     spent, statuses = measured(serve, clients, turns)
-    bound = 10 if FEWER else 3 * at(alone, 0.99) + 0.02
+    bound = 10 if FEWER else 3 * at(alone, 0.99)
     check("writes beside %s" % name, len(spent) == clients * turns and statuses <= {200, 201}, (len(spent), statuses))
     check("the time of writes beside %s" % name, at(spent, 0.99) < bound, (at(spent, 0.99), at(alone, 0.99)))
     return at(spent, 0.99)
@@ -105,7 +110,7 @@ def idle():
     if not descriptors(3_000):
         skip("a thousand idle connections", "a limit of 3,000 open files")
         return
-    serve = Serve(Server(), "--workers", "8", "--lanes", "2")
+    serve = Serve(ordinary(), "--workers", "8", "--lanes", "2")
     measured(serve, 4, 50)
     alone, _ = measured(serve, 4, 250)
     before, began = memory(serve), time.monotonic()
@@ -168,7 +173,7 @@ class Unfriendly:
 
 def unfriendly():
     """Clients that send slowly, that read nothing, or that go on sending after a refusal, more of each than there are workers."""
-    serve = Serve(Server(), "--workers", "4", "--lanes", "2")
+    serve = Serve(ordinary(), "--workers", "4", "--lanes", "2")
     measured(serve, 4, 50)
     alone, _ = measured(serve, 4, 250)
     for name, count, kind in (

@@ -7,7 +7,7 @@ import time
 from bulk_server import Server, writes_of
 from option_cases import Pipe, Sizes
 from program import check
-from run_cases import FAULTS, judge, operations, relay_run, written
+from run_cases import FAULTS, judge, operations, relay_run, wait_until, written
 
 
 class Slow(Server):
@@ -91,10 +91,18 @@ def restarts():
     with tempfile.TemporaryDirectory() as folder:
         producers = [operations(p, 400, 30) for p in range(2)]
         files = [written(folder, p, ops) for p, ops in enumerate(producers)]
-        server = Server(delay=lambda: 0.05)
-        threading.Timer(0.3, server.rest, (0.5,)).start()
-        done = relay_run(server.port, files, "--lanes", "2", "--flying", "8", "--count", "2", "--attempts", "32")
-        judge("a server that restarts with 8 in flight", server, producers, done, 32)
+        came, may_answer, done = [], threading.Event(), []
+        server = Server(delay=lambda: came.append(1) or may_answer.wait(60) and 0)
+        options = ("--lanes", "2", "--flying", "8", "--count", "2", "--attempts", "32")
+        running = threading.Thread(target=lambda: done.append(relay_run(server.port, files, *options)))
+        running.start()
+        wait_until(lambda: len(came) == 16)
+        flying = len(came)
+        server.rest(0.5)
+        may_answer.set()
+        running.join()
+        check("requests are in flight at a restart", flying > 0, flying)
+        judge("a server that restarts with 8 in flight", server, producers, done[0], 32)
         server.close()
 
 
