@@ -6,6 +6,7 @@ import subprocess
 import tempfile
 import threading
 import time
+import traceback
 
 from bulk_server import Server
 from program import RELAY, check, unlogged
@@ -295,11 +296,12 @@ def connections_closed_while_idle():
 
 
 def wait_until(holds):
-    """Waits until this holds, for at most a minute."""
+    """Waits until this holds; a minute without is a failure."""
     for _ in range(6_000):
         if holds():
             return
         time.sleep(0.01)
+    check("what is waited for comes within a minute", False, traceback.format_stack(limit=2)[0])
 
 
 def server_that_comes_back():

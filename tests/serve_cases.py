@@ -726,14 +726,32 @@ def repeats():
     check("another body is put", serve.ask("PUT", "/books/_doc/3", TWO)[0] == 200 and written(server, "3") == [one, two], written(server, "3"))
     check("and so is the first one again, since it would be an untruth now", serve.ask("PUT", "/books/_doc/3", ONE)[0] == 200 and written(server, "3") == [one, two, one], written(server, "3"))
 
-    given = metrics_of(serve)["relay_requests_repeated_total"]
-    leaves_one(serve, "PUT", "/books/_doc/4", ONE)
-    left(serve, "PUT", "/books/_doc/4", ONE)
-    wait_until(lambda: metrics_of(serve)["relay_requests_repeated_total"] == given + 1)
-    kept(serve, 1)
-    check("one whose second client left, too, is kept", serve.ask("PUT", "/books/_doc/4", ONE)[0] == 201 and written(server, "4") == [one], written(server, "4"))
-    check("and given once more", metrics_of(serve)["relay_requests_repeated_total"] == given + 2 and metrics_of(serve)["relay_kept_answers"] == 0)
     check("the stop after repeats", serve.stop()[0] == 0)
+    server.close()
+
+
+def repeats_that_leave():
+    """A client that leaves, and sends the same again, and has left again when a worker comes to it: the only one serves another until then."""
+    gate = Gate()
+    server = Server(delay=gate)
+    serve = Serve(server, "--workers", "1", "--lanes", "1")
+    leaves_one(serve, "PUT", "/books/_doc/1", ONE)
+    gate.is_open.clear()
+    before = gate.requests
+    other = threading.Thread(target=serve.ask, args=("PUT", "/books/_doc/2", ONE))
+    other.start()
+    wait_until(lambda: gate.requests > before)
+    left(serve, "PUT", "/books/_doc/1", ONE)
+    gate.is_open.set()
+    other.join()
+    wait_until(lambda: metrics_of(serve)["relay_requests_repeated_total"] == 1)
+    kept(serve, 1)
+    check("one whose second client left, too, is kept", serve.ask("PUT", "/books/_doc/1", ONE)[0] == 201 and written(server, "1") == [ONE.decode()], written(server, "1"))
+    found = metrics_of(serve)
+    check("and given once more", (found["relay_requests_repeated_total"], found["relay_kept_answers"]) == (2, 0), found)
+    leaves_one(serve, "PUT", "/books/_doc/3", ONE)
+    check("the next one is kept, too", serve.ask("PUT", "/books/_doc/3", ONE)[0] == 201 and written(server, "3") == [ONE.decode()], written(server, "3"))
+    check("the stop after clients that leave", serve.stop()[0] == 0)
     server.close()
 
 
@@ -836,4 +854,4 @@ def late_repeats():
     server.close()
 
 
-GROUPS = (documents, bulk, refusals_by_item, refusals_of_requests, faces, framing, broken, faults, killed, epochs, terms, late, turns, stops, down, watched, repeats, repeats_of_many, kept_for, filled, late_repeats)
+GROUPS = (documents, bulk, refusals_by_item, refusals_of_requests, faces, framing, broken, faults, killed, epochs, terms, late, turns, stops, down, watched, repeats, repeats_that_leave, repeats_of_many, kept_for, filled, late_repeats)

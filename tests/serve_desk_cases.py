@@ -41,15 +41,15 @@ def put_of(length):
 
 def stop():
     """`POST /_relay/stop`, by a listener at a loopback address and by another one."""
-    may_answer = threading.Event()
-    server = Server(delay=lambda: 0 if may_answer.wait(60) else 0)
+    came, may_answer = [], threading.Event()
+    server = Server(delay=lambda: came.append(1) or may_answer.wait(60) and 0)
     serve = Serve(server, "--workers", "3", "--lanes", "1")
     status, fields, _ = serve.whole("GET", "/_relay/stop")
     check("GET of the stop", status == 405 and fields["allow"] == "POST", (status, fields.items()))
     found = []
     asking = threading.Thread(target=lambda: found.append(serve.whole("PUT", "/books/_doc/1", b"{}")))
     asking.start()
-    wait_until(lambda: server.requests)
+    wait_until(lambda: came)
     status, fields, text = serve.whole("POST", "/_relay/stop")
     may_answer.set()
     check("the stop", (status, fields["connection"], json.loads(text)) == (200, "close", {"status": "stopping"}), (status, fields.items(), text))

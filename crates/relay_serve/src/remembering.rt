@@ -304,8 +304,11 @@ impl<'a, R: Wait + Clock> KeepsAnswers for Remembering<'a, R> {
     }
 
     fn let_go(&self) {
-        self.fate.store(SENT, Ordering::SeqCst);
-        self.lent_fate.store(SENT, Ordering::SeqCst);
+        if self.is_lent() {
+            self.lent_fate.store(SENT, Ordering::SeqCst);
+        } else {
+            self.fate.store(SENT, Ordering::SeqCst);
+        }
         self.end();
     }
 }
