@@ -1,4 +1,5 @@
 """Many clients of `relay serve` at the same time: idle, slow and unfriendly ones keep nobody waiting, and all get their turn."""
+import concurrent.futures
 import json
 import os
 import re
@@ -67,9 +68,9 @@ def measured(serve, clients, turns, pause=0.0):
     return sorted(spent), statuses
 
 
-def ordinary():
-    """An index that takes 10 milliseconds for each request, so that times can be compared on a machine that does other things too."""
-    return Server(delay=lambda: 0.01)
+def pair(*options):
+    """Two relays, each before an index that takes 10 milliseconds for each request."""
+    return [Serve(Server(delay=lambda: 0.01), "--lanes", "2", *options) for _ in range(2)]
 
 
 def at(spent, share):
@@ -77,15 +78,16 @@ def at(spent, share):
 
 
 def beside(name, serve, alone, clients=4, turns=250):
-    """Clients that write beside others: the 99th percentile of their times is below 3 times that of clients that are alone, in one of three
-    rounds, since other programs take the processors, too. A program with run-time checks, beside other tests, takes longer, and only has
-    to serve them."""
-    bound, found = 10 if FEWER else 3 * at(alone, 0.99), []
-    while len(found) < 3 and (not found or found[-1] >= bound):
-        spent, statuses = measured(serve, clients, turns)
+    """Clients that write beside others, and as many that write to a relay of their own meanwhile, since a busy machine slows both: in one of
+    three rounds the 99th percentile of the times of the former is below 3 times that of the latter. A program with run-time checks takes
+    longer, and only has to serve them."""
+    found = []
+    while len(found) < 3 and (not found or found[-1][0] >= found[-1][1]):
+        with concurrent.futures.ThreadPoolExecutor(2) as pool:
+            (spent, statuses), (other, _) = pool.map(lambda it: measured(it, clients, turns), (serve, alone))
         check("writes beside %s" % name, len(spent) == clients * turns and statuses <= {200, 201}, (len(spent), statuses))
-        found.append(at(spent, 0.99))
-    check("the time of writes beside %s" % name, found[-1] < bound, (found, bound))
+        found.append((at(spent, 0.99), 10 if FEWER else 3 * at(other, 0.99)))
+    check("the time of writes beside %s" % name, found[-1][0] < found[-1][1], found)
 
 
 def memory(serve):
@@ -112,13 +114,12 @@ def idle():
     if not descriptors(3_000):
         skip("a thousand idle connections", "a limit of 3,000 open files")
         return
-    serve = Serve(ordinary(), "--workers", "8", "--lanes", "2")
-    measured(serve, 4, 50)
-    alone, _ = measured(serve, 4, 250)
+    serve, alone = pair("--workers", "8")
+    measured(serve, 4, 300)
     before, began = memory(serve), time.monotonic()
     streams = [connect(serve) for _ in range(1_000)]
     opened = time.monotonic() - began
-    check("a thousand connections are opened", opened < 10, opened)
+    check("a thousand connections are opened", opened < (60 if FEWER else 10), opened)
     beside("a thousand idle connections", serve, alone)
     grown = memory(serve) - before
     check("the memory of a thousand idle connections", grown < 40_000_000, grown)
@@ -129,6 +130,7 @@ def idle():
     check("the stop with idle connections", serve.stop()[0] == 0)
     check("the stop does not wait for them", time.monotonic() - began < 2, time.monotonic() - began)
     check("they are closed", all(received(stream) == b"" for stream in streams[::50]))
+    check("the stop without", alone.stop()[0] == 0)
     close_all(streams)
 
 
@@ -175,9 +177,7 @@ class Unfriendly:
 
 def unfriendly():
     """Clients that send slowly, that read nothing, or that go on sending after a refusal, more of each than there are workers."""
-    serve = Serve(ordinary(), "--workers", "4", "--lanes", "2")
-    measured(serve, 4, 50)
-    alone, _ = measured(serve, 4, 250)
+    serve, alone = pair("--workers", "4")
     for name, count, kind in (
         ("clients that send a byte at a time", 64, "trickles"),
         ("clients that read nothing", 16, "never_reads"),
@@ -185,7 +185,7 @@ def unfriendly():
     ):
         with Unfriendly(serve, count, kind):
             beside(name, serve, alone)
-    check("the stop after these", serve.stop()[0] == 0)
+    check("the stop after these", serve.stop()[0] == alone.stop()[0] == 0)
 
 
 def refused_in_time():
